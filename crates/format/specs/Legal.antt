@@ -1,0 +1,57 @@
+-- The legal tokens: the written forms of the choices that keep every rule.
+use mathlib.Core.Path.{_≡_}
+use mathlib.Core.Bool.{Bool, true, false, not, _&&_, _||_}
+use mathlib.Core.List.{List, [], _∷_, _++_}
+use Prim.Native.Nat.{ℕ, zero, suc, _+_, _≤_}
+use lib.Dec.{eqb}
+use lib.ListN.{length}
+use Rattle.format.specs.Bytes.{All, Bytes}
+use Rattle.format.specs.Parts.{Kind, rule, information, sameKind, Part, WrittenForm}
+use Rattle.format.specs.Rules.{Check, checks, Section, sectionsOf, mayBothStand, otherKind, maskCovers, has, hasRequired}
+
+-- any two elements of the list, the earlier first, pass the test
+abbrev pub Pairwise : {A : Type 0} → (A → A → Bool) → List A → Type 0
+Pairwise f [] = Unit {0}
+Pairwise f (x ∷ xs) = All (λ y. f x y ≡ true) xs × Pairwise f xs
+
+-- external or internal
+abbrev pub knownId : ℕ → Bool
+knownId i = eqb i 0x1E || eqb i 0x1F
+
+-- the choice keeps every rule but those of refusal 20
+pub record Lawful (i : ℕ) (ps : List Part) : Type 0 where
+  pub identifier : knownId i ≡ true
+  pub fields : All (λ (p : Part). All (λ (c : Check). c .holds ≡ true) (checks i (p .kind) (p .fields))) ps
+  pub sections : Pairwise mayBothStand (sectionsOf ps)
+  pub tags : All (λ (s : Section). Pairwise otherKind (s .subs)) (sectionsOf ps)
+  pub masks : All (λ (s : Section). maskCovers (s .subs) ≡ true) (sectionsOf ps)
+
+-- the parts that are required are there: the rules of refusal 20
+pub record Complete (ps : List Part) : Type 0 where
+  pub information : has information ps ≡ true
+  pub within : All (λ (s : Section). hasRequired s ≡ true) (sectionsOf ps)
+
+-- 01's legal token, with the choice whose written form it is
+pub record Legal (bs : List ℕ) : Type 0 where
+  pub id : ℕ
+  pub parts : List Part
+  pub form : WrittenForm id parts bs
+  pub atLeast : 80 ≤ length bs
+  pub atMost : length bs ≤ 3500
+  pub lawful : Lawful id parts
+  pub complete : Complete parts
+
+-- the count of rules: how many sections 12
+abbrev pub ruleCount : List Part → ℕ
+ruleCount [] = 0
+ruleCount (p ∷ ps) = elim (sameKind rule (p .kind)) as (λ b. ℕ) [ true ↦ 1 | false ↦ 0 ] + ruleCount ps
+
+-- the count of rules of a list of legal tokens: the sum over its tokens
+abbrev pub rulesOfAll : (ts : List (List ℕ)) → All Legal ts → ℕ
+rulesOfAll [] ls = 0
+rulesOfAll (t ∷ ts) ls = ruleCount (ls .0 .parts) + rulesOfAll ts (ls .1)
+
+-- the tokens laid end to end
+abbrev pub joined : List (List ℕ) → List ℕ
+joined [] = []
+joined (t ∷ ts) = t ++ joined ts

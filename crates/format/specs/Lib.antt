@@ -1,0 +1,11 @@
+pub mod Bytes
+pub mod Layout
+pub mod Parts
+pub mod Forms
+pub mod Rules
+pub mod Legal
+pub mod Reading
+pub mod Table
+pub mod Views
+pub mod Writer
+pub mod Lines

@@ -1,0 +1,167 @@
+-- The twelve kinds of sections and subsections with their layouts, and the written form of an identifier and parts.
+use mathlib.Core.Path.{_≡_}
+use mathlib.Core.Bool.{Bool, true, false, not, _&&_, _||_}
+use mathlib.Core.List.{List, [], _∷_, _++_}
+use mathlib.Core.Option.{Option, none, some}
+use Prim.Native.Nat.{ℕ, zero, suc, _+_, _*_, _^_, _<_}
+use lib.Dec.{eqb, ltb}
+use lib.ListN.{length}
+use Rattle.format.specs.Bytes.{Bytes, All}
+use Rattle.format.specs.Layout.{Item, code, zeros, own, count, fixed, counted, Fields, write, fits}
+
+pub data Kind : Type 0 where
+  publicKey rule transportVariant transportRule exportParameters sourceRule tokenParameters : Kind
+  name information protection dates applicationData : Kind
+
+abbrev pub kinds : List Kind
+kinds =
+    publicKey
+    ∷ rule
+    ∷ transportVariant
+    ∷ transportRule
+    ∷ exportParameters
+    ∷ sourceRule
+    ∷ tokenParameters
+    ∷ name
+    ∷ information
+    ∷ protection
+    ∷ dates
+    ∷ applicationData
+    ∷ []
+
+-- the id of the section that the kind is, or that the subsection stands in
+abbrev pub sectionId : Kind → ℕ
+sectionId publicKey = 0x11
+sectionId rule = 0x12
+sectionId transportVariant = 0x12
+sectionId transportRule = 0x12
+sectionId exportParameters = 0x12
+sectionId sourceRule = 0x12
+sectionId tokenParameters = 0x12
+sectionId name = 0x13
+sectionId information = 0x14
+sectionId protection = 0x14
+sectionId dates = 0x14
+sectionId applicationData = 0x15
+
+-- the tag of a subsection, 0 for a section
+abbrev pub tag : Kind → ℕ
+tag publicKey = 0
+tag rule = 0
+tag transportVariant = 1
+tag transportRule = 2
+tag exportParameters = 3
+tag sourceRule = 4
+tag tokenParameters = 5
+tag name = 0
+tag information = 0
+tag protection = 1
+tag dates = 2
+tag applicationData = 0
+
+-- the fields behind id, version and length, or tag, length and version
+abbrev pub body : Kind → List Item
+body publicKey = zeros 2 10 ∷ count 2 1 ∷ fixed 2 ∷ count 2 1 ∷ counted 0 ∷ counted 1 ∷ fixed 4 ∷ []
+body rule = fixed 8 ∷ fixed 4 ∷ fixed 1 ∷ fixed 1 ∷ fixed 1 ∷ fixed 1 ∷ []
+body transportVariant = zeros 2 10 ∷ count 1 0 ∷ counted 0 ∷ []
+body transportRule = zeros 1 10 ∷ fixed 8 ∷ []
+body exportParameters =
+    zeros 2 10 ∷ zeros 1 11 ∷ fixed 1 ∷ fixed 1 ∷ count 1 0 ∷ counted 0 ∷ count 1 0 ∷ counted 1 ∷ []
+body sourceRule = zeros 1 10 ∷ fixed 8 ∷ []
+body tokenParameters = zeros 2 10 ∷ zeros 1 11 ∷ count 1 0 ∷ counted 0 ∷ counted 0 ∷ count 1 0 ∷ counted 1 ∷ []
+body name = fixed 64 ∷ []
+body information = zeros 2 10 ∷ fixed 4 ∷ []
+body protection = zeros 1 10 ∷ fixed 32 ∷ fixed 8 ∷ fixed 16 ∷ []
+body dates = zeros 1 10 ∷ fixed 2 ∷ fixed 4 ∷ fixed 4 ∷ []
+body applicationData = count 2 0 ∷ counted 0 ∷ []
+
+abbrev pub isSubsection : Kind → Bool
+isSubsection k = elim (tag k) [ zero ↦ false | suc n ↦ true ]
+
+-- how a section and a subsection begin
+abbrev pub frame : Bool → ℕ → ℕ → List Item
+frame false i g = code 1 i ∷ zeros 1 8 ∷ own 2 ∷ []
+frame true i g = code 2 g ∷ own 2 ∷ zeros 1 8 ∷ []
+
+-- the length of that beginning
+abbrev pub frameLength : Kind → ℕ
+frameLength k = elim (isSubsection k) [ false ↦ 4 | true ↦ 5 ]
+
+-- all fields of the kind; their numbers are their places in this list, from 0
+abbrev pub layout : Kind → List Item
+layout k = frame (isSubsection k) (sectionId k) (tag k) ++ body k
+
+abbrev pub header : List Item
+header = fixed 1 ∷ zeros 1 3 ∷ own 2 ∷ zeros 4 5 ∷ []
+
+-- the number of the kind in a row: section id times 65,536 plus tag
+abbrev pub kindNumber : Kind → ℕ
+kindNumber k = sectionId k * 65536 + tag k
+
+abbrev pub sameKind : Kind → Kind → Bool
+sameKind j k = eqb (kindNumber j) (kindNumber k)
+
+-- the first kind of the list that passes the test
+abbrev pub firstKind : (Kind → Bool) → List Kind → Option Kind
+firstKind f [] = none
+firstKind f (k ∷ ks) = elim (f k) [ true ↦ some k | false ↦ firstKind f ks ]
+
+-- the kind of the section with this id
+abbrev pub sectionKind : ℕ → Option Kind
+sectionKind i = firstKind (λ k. not (isSubsection k) && eqb (sectionId k) i) kinds
+
+-- the kind of the subsection with this tag in a section of kind o
+abbrev pub subsectionKind : Kind → ℕ → Option Kind
+subsectionKind o g = firstKind (λ k. isSubsection k && (eqb (sectionId k) (sectionId o) && eqb (tag k) g)) kinds
+
+-- 01's part: a kind with the bytes of its chosen fields
+pub record Part : Type 0 where
+  pub kind : Kind
+  pub fields : Fields
+
+-- the bytes that the part itself takes, without its subsections
+abbrev pub size : Part → ℕ
+size p = length (write 0 (layout (p .kind)) (p .fields))
+
+-- the bytes of the subsections at the front of the list
+abbrev pub subsectionsLength : List Part → ℕ
+subsectionsLength [] = 0
+subsectionsLength (p ∷ ps) = elim (isSubsection (p .kind)) [ true ↦ size p + subsectionsLength ps | false ↦ 0 ]
+
+-- what the part's own length field states, with the parts behind it: a section's covers its subsections
+abbrev pub span : Part → List Part → ℕ
+span p ps = size p + elim (isSubsection (p .kind)) as (λ b. ℕ) [ true ↦ 0 | false ↦ subsectionsLength ps ]
+
+-- the parts in order, field after field
+abbrev pub writeParts : List Part → List ℕ
+writeParts [] = []
+writeParts (p ∷ ps) = write (span p ps) (layout (p .kind)) (p .fields) ++ writeParts ps
+
+-- the header and the parts: 01's written form
+abbrev pub written : ℕ → List Part → List ℕ
+written i ps = write (8 + length (writeParts ps)) header ((i ∷ []) ∷ []) ++ writeParts ps
+
+-- what refusal 25 tests: each subsection follows a section of its own id, o being the id of the section before, or 0
+abbrev pub joins : ℕ → List Part → Bool
+joins o [] = true
+joins o (p ∷ ps) =
+    (not (isSubsection (p .kind)) || eqb (sectionId (p .kind)) o) && joins (sectionId (p .kind)) ps
+
+-- 01's choice of identifier and parts: bytes, and nothing that 24 or 25 would refuse
+pub record Choice (i : ℕ) (ps : List Part) : Type 0 where
+  pub identifier : i < 256
+  pub bytes : All (λ (p : Part). All Bytes (p .fields)) ps
+  pub fit : All (λ (p : Part). fits [] (layout (p .kind)) (p .fields) ≡ true) ps
+  pub joined : joins 0 ps ≡ true
+
+-- each part's own length field can state its length
+abbrev pub Stateable : List Part → Type 0
+Stateable [] = Unit {0}
+Stateable (p ∷ ps) = (span p ps < 256 ^ 2) × Stateable ps
+
+-- the bytes are the written form of the choice; a choice with a length that its field can't state has none
+pub record WrittenForm (i : ℕ) (ps : List Part) (bs : List ℕ) : Type 0 where
+  pub choice : Choice i ps
+  pub parts : Stateable ps
+  pub whole : length (written i ps) < 256 ^ 2
+  pub same : written i ps ≡ bs

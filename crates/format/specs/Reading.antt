@@ -1,0 +1,205 @@
+-- The answer for any bytes: the first fault in 01's order, or the parts that were read. One definition serves a token
+-- and a draft, which is read under all rules but those of refusal 20.
+use mathlib.Core.Path.{_≡_}
+use mathlib.Core.Bool.{Bool, true, false, not, _&&_, _||_}
+use mathlib.Core.List.{List, [], _∷_, _++_}
+use mathlib.Core.Option.{Option, none, some}
+use Prim.Native.Nat.{ℕ, zero, suc, _+_, _-_}
+use lib.Dec.{eqb, ltb, leb}
+use lib.ListN.{length, getD, take, drop}
+use Rattle.format.specs.Bytes.{number, bytesAt, allZero, sameBytes}
+use Rattle.format.specs.Layout.{Item, code, zeros, own, count, fixed, counted, least, Slot, slots, slotBytes, fieldsIn, endOf}
+use Rattle.format.specs.Parts.{Kind, rule, information, exportParameters, tokenParameters, body, layout, frameLength, kinds, isSubsection, sectionId}
+use Rattle.format.specs.Parts.{sameKind, sectionKind, subsectionKind, Part, size}
+use Rattle.format.specs.Rules.{Check, checks, Section, has, sameRuleId, maskCovers, hasRequired}
+use Rattle.format.specs.Legal.{knownId}
+use Rattle.format.specs.declared.Answer.{Answer}
+use Rattle.format.specs.declared.Answer.the-variants.{Accepted, Refused}
+
+-- a refusal: its number, the start of the part at fault (0 for the header), and the number of the field tested
+pub record Fault : Type 0 where
+  pub number : ℕ
+  pub part : ℕ
+  pub field : ℕ
+
+abbrev pub fault : ℕ → ℕ → ℕ → Fault
+fault n p f = record { number = n; part = p; field = f }
+
+-- the place of a refusal: the start of the part at fault
+abbrev pub place : Fault → ℕ
+place f = f .part
+
+-- what a reading comes to: the first fault, or what was found
+pub data Outcome (A : Type 0) : Type 0 where
+  refused : Fault → Outcome A
+  found : A → Outcome A
+
+-- a test that passes goes on to the rest, and one that fails refuses
+unfoldable pub need : {A : Type 0} → Bool → Fault → Outcome A → Outcome A
+need true f rest = rest
+need false f rest = refused f
+
+-- what is found is handed on, and a refusal goes straight out
+unfoldable pub andThen : {A B : Type 0} → Outcome A → (A → Outcome B) → Outcome B
+andThen (refused f) next = refused f
+andThen (found a) next = next a
+
+-- ---- one part
+
+-- the length that a section or subsection states in its bytes 2 and 3
+abbrev pub stated : List ℕ → ℕ
+stated r = number (bytesAt r 2 2)
+
+-- the slots of a kind's fields behind its frame, in bytes that begin with the part
+abbrev pub bodySlots : Kind → List ℕ → List Slot
+bodySlots k r = slots [] (body k) r (frameLength k)
+
+-- the length that the part's own counts make
+abbrev pub madeLength : Kind → List ℕ → ℕ
+madeLength k r = endOf (frameLength k) (bodySlots k r)
+
+-- the part that the bytes begin with
+abbrev pub partIn : Kind → List ℕ → Part
+partIn k r = record { kind = k; fields = fieldsIn r (bodySlots k r) }
+
+-- the tests of the fields that are always 0, the first of them field number j
+abbrev pub zeroChecks : ℕ → List ℕ → List Slot → List Check
+zeroChecks j r [] = []
+zeroChecks j r (s ∷ ss) =
+    let rest = zeroChecks (suc j) r ss in
+    elim (s .item) [
+      | code w v ↦ rest
+      | zeros n q ↦ record { field = j; refusal = q; holds = allZero (slotBytes r s) } ∷ rest
+      | own w ↦ rest
+      | count w k ↦ rest
+      | fixed n ↦ rest
+      | counted c ↦ rest
+    ]
+
+-- the tests of the part's fields in rising offset: in every layout what is always 0 stands before the chosen fields
+abbrev pub fieldChecks : ℕ → Kind → List ℕ → List Check
+fieldChecks i k r = zeroChecks 3 r (bodySlots k r) ++ checks i k (partIn k r .fields)
+
+-- the tests one after another, for the part at this place
+unfoldable pub tested : {A : Type 0} → ℕ → List Check → Outcome A → Outcome A
+tested at [] rest = rest
+tested at (c ∷ cs) rest = need (c .holds) (fault (c .refusal) at (c .field)) (tested at cs rest)
+
+-- ---- subsections
+
+-- the subsection at the front of r, in a section of kind o with n bytes left; `before` are the section's earlier ones
+unfoldable pub subsection : ℕ → Kind → List Part → ℕ → ℕ → List ℕ → Outcome Part
+subsection i o before at n r =
+    need (leb 4 n) (fault 12 at 0)
+    (elim (subsectionKind o (number (take 2 r))) [
+      | none ↦ refused (fault 13 at 0)
+      | some k ↦
+          need (leb (least (layout k)) (stated r) && leb (stated r) n) (fault 12 at 1)
+          (need (not (has k before)) (fault 14 at 0)
+          (need (allZero (bytesAt r 4 1)) (fault 8 at 2)
+          (need (eqb (madeLength k r) (stated r)) (fault 12 at 1)
+          (tested at (fieldChecks i k r) (found (partIn k r))))))
+    ])
+
+-- the subsections that tile the next n bytes; d turns are enough where d is more than n
+unfoldable pub subsections : ℕ → ℕ → Kind → List Part → ℕ → ℕ → List ℕ → Outcome (List Part)
+subsections zero i o before at n r = refused (fault 0 at 0)
+subsections (suc d) i o before at zero r = found []
+subsections (suc d) i o before at (suc m) r =
+    andThen (subsection i o before at (suc m) r)
+    (λ p.
+    andThen (subsections d i o (p ∷ before) (at + stated r) (suc m - stated r) (drop (stated r) r))
+    (λ ps. found (p ∷ ps)))
+
+-- ---- sections
+
+-- sections 12 and 14 have subsections
+abbrev pub holdsSubs : Kind → Bool
+holdsSubs k = sameKind rule k || sameKind information k
+
+-- a section of the kind stands before
+abbrev pub kindBefore : Kind → List Section → Bool
+kindBefore k [] = false
+kindBefore k (s ∷ ss) = sameKind k (s .head .kind) || kindBefore k ss
+
+-- a rule with the same Rule ID stands before
+abbrev pub ruleBefore : Part → List Section → Bool
+ruleBefore p [] = false
+ruleBefore p (s ∷ ss) = (sameKind rule (s .head .kind) && sameRuleId p (s .head)) || ruleBefore p ss
+
+-- the place of the first subsection of the kind, where the subsections begin at this place
+abbrev pub placeOf : Kind → ℕ → List Part → ℕ
+placeOf k at [] = at
+placeOf k at (p ∷ ps) = elim (sameKind k (p .kind)) [ true ↦ at | false ↦ placeOf k (at + size p) ps ]
+
+-- the end of a section with its subsections: 0005 against 0003, then what is required
+unfoldable pub closed : Bool → ℕ → ℕ → Section → Outcome Section
+closed full at first s =
+    need (maskCovers (s .subs)) (fault 18 (placeOf tokenParameters first (s .subs)) 5)
+    (need (not full || hasRequired s) (fault 20 at 0) (found s))
+
+-- the section at the front of r, behind its fixed tests: its Rule ID, its subsections, its end
+unfoldable pub sectionRest : Bool → ℕ → Kind → List Section → ℕ → List ℕ → Outcome Section
+sectionRest full i k before at r =
+    need (not (sameKind rule k && ruleBefore (partIn k r) before)) (fault 9 at 3)
+    (andThen (subsections (suc (stated r)) i k [] (at + madeLength k r) (stated r - madeLength k r) (drop (madeLength k r) r))
+    (λ ps. closed full at (at + madeLength k r) (record { head = partIn k r; subs = ps })))
+
+-- the section at the front of r; `before` are the token's earlier sections
+unfoldable pub section : Bool → ℕ → List Section → ℕ → List ℕ → Outcome Section
+section full i before at r =
+    need (leb 4 (length r)) (fault 6 at 0)
+    (elim (sectionKind (getD r 0 0)) [
+      | none ↦ refused (fault 7 at 0)
+      | some k ↦
+          need (allZero (bytesAt r 1 1)) (fault 8 at 1)
+          (need (leb (least (layout k)) (stated r) && leb (stated r) (length r)) (fault 6 at 2)
+          (need (sameKind rule k || not (kindBefore k before)) (fault 9 at 0)
+          (need (holdsSubs k || eqb (madeLength k r) (stated r)) (fault 15 at 2)
+          (tested at (fieldChecks i k r) (sectionRest full i k before at r)))))
+    ])
+
+-- the sections that tile r; d turns are enough where d is more than its length. The missing section 14 comes last
+unfoldable pub sections : ℕ → Bool → ℕ → List Section → ℕ → List ℕ → Outcome (List Section)
+sections zero full i before at r = refused (fault 0 at 0)
+sections (suc d) full i before at [] = need (not full || kindBefore information before) (fault 20 at 0) (found [])
+sections (suc d) full i before at (b ∷ bs) =
+    andThen (section full i before at (b ∷ bs))
+    (λ s.
+    andThen (sections d full i (s ∷ before) (at + stated (b ∷ bs)) (drop (stated (b ∷ bs)) (b ∷ bs)))
+    (λ ss. found (s ∷ ss)))
+
+-- ---- the token and the draft
+
+-- refusal 4: a token's header states the length of its buffer, a draft's at least 8 bytes and no more than there are
+abbrev pub lengthAllowed : Bool → List ℕ → Bool
+lengthAllowed true bs = leb (length bs) 3500 && eqb (stated bs) (length bs)
+lengthAllowed false bs = leb 8 (stated bs) && leb (stated bs) 3500 && leb (stated bs) (length bs)
+
+-- the reading of a token (true) or of a draft (false)
+unfoldable pub reading : Bool → List ℕ → Outcome (List Section)
+reading full bs =
+    need (leb 8 (length bs)) (fault 1 0 0)
+    (need (knownId (getD bs 0 0)) (fault 2 0 0)
+    (need (allZero (bytesAt bs 1 1)) (fault 3 0 1)
+    (need (lengthAllowed full bs) (fault 4 0 2)
+    (need (allZero (bytesAt bs 4 4)) (fault 5 0 3)
+    (sections (suc (stated bs)) full (getD bs 0 0) [] 8 (drop 8 (take (stated bs) bs)))))))
+
+-- the parts of the sections, in order
+abbrev pub partsOf : List Section → List Part
+partsOf [] = []
+partsOf (s ∷ ss) = s .head ∷ s .subs ++ partsOf ss
+
+-- how many rows the sections make: one for each part
+abbrev pub rowCount : List Section → ℕ
+rowCount ss = length (partsOf ss)
+
+-- an outcome as number and second number: the place of the refusal, or what is counted of what was found
+unfoldable pub told : {A : Type 0} → (A → ℕ) → Outcome A → Answer
+told second (refused f) = Refused (f .number) (place f)
+told second (found a) = Accepted (second a)
+
+-- the answer of reading a token
+unfoldable pub answer : List ℕ → Answer
+answer bs = told rowCount (reading true bs)

@@ -1,0 +1,182 @@
+-- The rules beyond the layout, each a named condition on the parts. A rule on a part's own fields is a `Check`, with
+-- the field that is tested and the refusal; the rules between parts follow.
+use mathlib.Core.Path.{_≡_}
+use mathlib.Core.Bool.{Bool, true, false, not, _&&_, _||_}
+use mathlib.Core.List.{List, [], _∷_, _++_}
+use Prim.Native.Nat.{ℕ, zero, suc, _+_}
+use lib.Dec.{eqb, ltb, leb}
+use lib.ListN.{length, getD}
+use Rattle.format.specs.Bytes.{All, number, allZero, sameBytes}
+use Rattle.format.specs.Layout.{Fields}
+use Rattle.format.specs.Parts.{Kind, publicKey, rule, transportVariant, transportRule, exportParameters, sourceRule, tokenParameters}
+use Rattle.format.specs.Parts.{name, information, protection, dates, applicationData, isSubsection, sameKind, Part}
+use Rattle.format.specs.Forms.{between, ruleIdForm, labelForm, dateExists, inOrder, keyLength, fewestBytes, modulusForm, exponentForm}
+
+-- a rule on a field: the field's number in its layout, the refusal, and whether the rule is kept
+pub record Check : Type 0 where
+  pub field : ℕ
+  pub refusal : ℕ
+  pub holds : Bool
+
+abbrev check : ℕ → ℕ → Bool → Check
+check f n b = record { field = f; refusal = n; holds = b }
+
+abbrev pub external : ℕ → Bool
+external i = eqb i 0x1E
+
+-- ---- the conditions on single fields, in 01's order
+
+-- x is 1 to 512
+abbrev pub exponentLength : List ℕ → Bool
+exponentLength e = between 1 512 (length e)
+
+-- modulus bits 512 to 4,096
+abbrev pub modulusBits : ℕ → Bool
+modulusBits bits = between 512 4096 bits
+
+-- 00000000, 80000000 or C0000000
+abbrev pub keyFlags : List ℕ → Bool
+keyFlags f = eqb (number f) 0 || eqb (number f) 0x80000000 || eqb (number f) 0xC0000000
+
+-- 0 or 1: generate or export, inactive or active, dates unchecked or checked
+abbrev pub zeroOrOne : List ℕ → Bool
+zeroOrOne f = leb (number f) 1
+
+-- the generated length is 8, 16 or 24 for a generate rule, any byte for an export rule
+abbrev pub generatedLength : List ℕ → List ℕ → Bool
+generatedLength flags g = eqb (number flags) 1 || keyLength (number g)
+
+-- key-check and asymmetric format are 0 to 2
+abbrev pub zeroToTwo : List ℕ → Bool
+zeroToTwo f = leb (number f) 2
+
+-- the symmetric format is 0 for generate and 1 for export
+abbrev pub symmetricFormat : List ℕ → List ℕ → Bool
+symmetricFormat flags f = eqb (number f) (number flags)
+
+-- x is 0 or 8 to 255, and if not 0 at least the maximum
+abbrev pub variantLength : List ℕ → List ℕ → Bool
+variantLength maximum v = eqb (length v) 0 || (between 8 255 (length v) && leb (number maximum) (length v))
+
+-- c, and m, is 0, 8 or 16
+abbrev pub controlLength : List ℕ → Bool
+controlLength f = eqb (length f) 0 || eqb (length f) 8 || eqb (length f) 16
+
+-- z is 0 or 64
+abbrev pub labelLength : List ℕ → Bool
+labelLength f = eqb (length f) 0 || eqb (length f) 64
+
+-- the MKVP of an external token is all zero
+abbrev pub patternAllowed : ℕ → List ℕ → Bool
+patternAllowed i f = not (external i) || allZero f
+
+-- the rules of the dates, with the field's number: both exist, activation is not after expiration
+abbrev pub dateRules : List ℕ → List ℕ → List ℕ → List Check
+dateRules flags activation expiration =
+    check 5 19 (dateExists activation)
+    ∷ check 6 19 (dateExists expiration)
+    ∷ check 6 19 (inOrder activation expiration)
+    ∷ []
+
+-- the rules on the fields of a kind, in the order in which they are tested; i is the token's identifier
+abbrev pub checks : ℕ → Kind → Fields → List Check
+checks i publicKey f =
+    check 4 16 (exponentLength (getD f 1 []))
+    ∷ check 5 16 (modulusBits (number (getD f 0 [])))
+    ∷ check 6 16 (fewestBytes (number (getD f 0 [])) (length (getD f 2 [])))
+    ∷ check 8 16 (modulusForm (number (getD f 0 [])) (getD f 2 []))
+    ∷ check 7 16 (exponentForm (getD f 1 []) (getD f 2 []))
+    ∷ check 9 11 (keyFlags (getD f 3 []))
+    ∷ []
+checks i rule f =
+    check 3 17 (ruleIdForm (getD f 0 []))
+    ∷ check 4 11 (zeroOrOne (getD f 1 []))
+    ∷ check 5 11 (generatedLength (getD f 1 []) (getD f 2 []))
+    ∷ check 6 11 (zeroToTwo (getD f 3 []))
+    ∷ check 7 11 (symmetricFormat (getD f 1 []) (getD f 4 []))
+    ∷ check 8 11 (zeroToTwo (getD f 5 []))
+    ∷ []
+checks i transportVariant f = []
+checks i transportRule f = check 4 17 (ruleIdForm (getD f 0 [])) ∷ []
+checks i exportParameters f =
+    check 5 18 (keyLength (number (getD f 0 [])))
+    ∷ check 6 18 (keyLength (number (getD f 1 [])))
+    ∷ check 6 18 (leb (number (getD f 0 [])) (number (getD f 1 [])))
+    ∷ check 7 18 (variantLength (getD f 1 []) (getD f 2 []))
+    ∷ check 9 18 (controlLength (getD f 3 []))
+    ∷ []
+checks i sourceRule f = check 4 17 (ruleIdForm (getD f 0 [])) ∷ []
+checks i tokenParameters f =
+    check 5 18 (controlLength (getD f 0 []))
+    ∷ check 8 18 (labelLength (getD f 2 []))
+    ∷ check 9 17 (eqb (length (getD f 2 [])) 0 || labelForm (getD f 2 []))
+    ∷ []
+checks i name f = []
+checks i information f = check 4 11 (zeroOrOne (getD f 0 [])) ∷ []
+checks i protection f = check 6 21 (patternAllowed i (getD f 2 [])) ∷ []
+checks i dates f = check 4 11 (zeroOrOne (getD f 0 [])) ∷ dateRules (getD f 0 []) (getD f 1 []) (getD f 2 [])
+checks i applicationData f = []
+
+-- ---- the rules between parts
+
+-- a section and its subsections, in order
+pub record Section : Type 0 where
+  pub head : Part
+  pub subs : List Part
+
+-- the subsections at the front of the list
+abbrev pub frontSubs : List Part → List Part
+frontSubs [] = []
+frontSubs (p ∷ ps) = elim (isSubsection (p .kind)) [ true ↦ p ∷ frontSubs ps | false ↦ [] ]
+
+-- the sections of a list of parts, each with the subsections that follow it
+abbrev pub sectionsOf : List Part → List Section
+sectionsOf [] = []
+sectionsOf (p ∷ ps) =
+    elim (isSubsection (p .kind)) [
+      | true ↦ sectionsOf ps
+      | false ↦ record { head = p; subs = frontSubs ps } ∷ sectionsOf ps
+    ]
+
+-- a part of the kind is among these
+abbrev pub has : Kind → List Part → Bool
+has k [] = false
+has k (p ∷ ps) = sameKind k (p .kind) || has k ps
+
+-- the parts of the kind among these
+abbrev pub ofKind : Kind → List Part → List Part
+ofKind k [] = []
+ofKind k (p ∷ ps) = elim (sameKind k (p .kind)) [ true ↦ p ∷ ofKind k ps | false ↦ ofKind k ps ]
+
+-- each of the parts passes the test
+abbrev pub each : (Part → Bool) → List Part → Bool
+each f [] = true
+each f (p ∷ ps) = f p && each f ps
+
+abbrev pub sameRuleId : Part → Part → Bool
+sameRuleId p q = sameBytes (getD (p .fields) 0 []) (getD (q .fields) 0 [])
+
+-- only section 12 may repeat, with different Rule IDs
+abbrev pub mayBothStand : Section → Section → Bool
+mayBothStand s t =
+    not (sameKind (s .head .kind) (t .head .kind))
+    || (sameKind rule (s .head .kind) && not (sameRuleId (s .head) (t .head)))
+
+-- each subsection tag stands at most once in its section
+abbrev pub otherKind : Part → Part → Bool
+otherKind p q = not (sameKind (p .kind) (q .kind))
+
+-- if m is not 0 and the rule has a 0003, m is at least its minimum
+abbrev pub maskCovers : List Part → Bool
+maskCovers subs =
+    each
+    (λ (p : Part).
+    eqb (length (getD (p .fields) 0 [])) 0
+    || each (λ (q : Part). leb (number (getD (q .fields) 0 [])) (length (getD (p .fields) 0 []))) (ofKind exportParameters subs))
+    (ofKind tokenParameters subs)
+
+-- an export rule has a 0003, and section 14 its 0001
+abbrev pub hasRequired : Section → Bool
+hasRequired s =
+    (not (sameKind rule (s .head .kind) && eqb (number (getD (s .head .fields) 1 [])) 1) || has exportParameters (s .subs))
+    && (not (sameKind information (s .head .kind)) || has protection (s .subs))

@@ -1,0 +1,28 @@
+// The types that answers are made of. The definitions of the format stand in specs/, the theorems about them in proofs/.
+
+// The answer of reading, and of each call of the writer: accepted with its second number, or the refusal's number and place.
+pub enum Answer {
+    Accepted(u32),
+    Refused(u32, u32),
+}
+
+// A row of the table: a section or a subsection of the token.
+pub struct Row {
+    pub kind: u32,
+    pub offset: u32,
+    pub length: u32,
+    pub owner: u32,
+}
+
+// What a view asks for: where a field lies in the token and how long it is, or the refusal's number and place.
+pub enum Where {
+    At(u32, u32),
+    Missing(u32, u32),
+}
+
+// A step of the walk: a row with the next row's place, the end, or the refusal's number and place.
+pub enum Step {
+    Record(Row, u32),
+    End,
+    Stopped(u32, u32),
+}
