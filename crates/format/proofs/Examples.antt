@@ -9,6 +9,7 @@ use Rattle.format.specs.Parts.{Part, information, protection}
 use Rattle.format.specs.Table.{rows}
 use Rattle.format.specs.Lines.{text, firstLine, rowLine}
 use Rattle.format.specs.declared.Row.{Row}
+use Rattle.format.specs.Bytes.{number, bytesAt, allZero, sameBytes}
 use Rattle.format.specs.Forms.{ruleIdForm, dateExists, labelForm, modulusForm, exponentForm, inOrder}
 use Rattle.format.specs.Reading.{answer, told, reading, sections, section, sectionRest, closed, subsections, subsection, tested, need, andThen}
 use Rattle.format.specs.declared.Answer.{Answer}
@@ -60,7 +61,7 @@ starred =
     ∷ []
 
 pub starred-hold : AllHold starred
-unfolding answer told reading sections section sectionRest closed subsections subsection tested need andThen dateExists ruleIdForm
+unfolding answer told reading sections section sectionRest closed subsections subsection tested need andThen number bytesAt allZero sameBytes dateExists ruleIdForm
 starred-hold = (refl, (refl, (refl, (refl, (refl, (refl, (refl, (refl, (refl, (refl, (refl, tt)))))))))))
 
 -- the lines of rows, numbered from n on
@@ -72,5 +73,5 @@ rowLines n (r ∷ rs) = rowLine n r ++ rowLines (suc n) rs
 pub listing-T :
     firstLine 0x1E 80 (answer tokenT) ++ rowLines 0 (rows partsT)
     ≡ text "token external 80 bytes 2 rows\n0 14 - 8 72 0\n1 14 0001 18 62 0\n"
-unfolding answer told reading sections section sectionRest closed subsections subsection tested need andThen firstLine rowLine
+unfolding answer told reading sections section sectionRest closed subsections subsection tested need andThen number bytesAt allZero sameBytes firstLine rowLine
 listing-T = refl

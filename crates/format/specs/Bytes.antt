@@ -25,20 +25,20 @@ numberFrom a [] = a
 numberFrom a (b ∷ bs) = numberFrom (a * 256 + b) bs
 
 -- the number that bytes state, the highest first
-abbrev pub number : List ℕ → ℕ
+unfoldable pub number : List ℕ → ℕ
 number bs = numberFrom 0 bs
 
 -- the n bytes from place i on, or as many of them as there are
-abbrev pub bytesAt : List ℕ → ℕ → ℕ → List ℕ
+unfoldable pub bytesAt : List ℕ → ℕ → ℕ → List ℕ
 bytesAt bs i n = take n (drop i bs)
 
 -- every byte is 0
-abbrev pub allZero : List ℕ → Bool
+unfoldable pub allZero : List ℕ → Bool
 allZero [] = true
 allZero (b ∷ bs) = eqb b 0 && allZero bs
 
 -- the two lists are the same bytes
-abbrev pub sameBytes : List ℕ → List ℕ → Bool
+unfoldable pub sameBytes : List ℕ → List ℕ → Bool
 sameBytes [] [] = true
 sameBytes [] (c ∷ cs) = false
 sameBytes (b ∷ bs) [] = false

@@ -46,7 +46,11 @@ andThen (found a) next = next a
 
 -- ---- one part
 
--- the length that a section or subsection states in its bytes 2 and 3
+-- the id byte at the front of a token or a section
+abbrev pub idOf : List ℕ → ℕ
+idOf r = number (bytesAt r 0 1)
+
+-- the length that a token, a section or a subsection states in its bytes 2 and 3
 abbrev pub stated : List ℕ → ℕ
 stated r = number (bytesAt r 2 2)
 
@@ -91,7 +95,7 @@ tested at (c ∷ cs) rest = need (c .holds) (fault (c .refusal) at (c .field)) (
 unfoldable pub subsection : ℕ → Kind → List Part → ℕ → ℕ → List ℕ → Outcome Part
 subsection i o before at n r =
     need (leb 4 n) (fault 12 at 0)
-    (elim (subsectionKind o (number (take 2 r))) [
+    (elim (subsectionKind o (number (bytesAt r 0 2))) [
       | none ↦ refused (fault 13 at 0)
       | some k ↦
           need (leb (least (layout k)) (stated r) && leb (stated r) n) (fault 12 at 1)
@@ -101,15 +105,13 @@ subsection i o before at n r =
           (tested at (fieldChecks i k r) (found (partIn k r))))))
     ])
 
--- the subsections that tile the next n bytes; d turns are enough where d is more than n
+-- the subsections that tile the next n bytes, behind the earlier ones; d turns are enough where d is more than n
 unfoldable pub subsections : ℕ → ℕ → Kind → List Part → ℕ → ℕ → List ℕ → Outcome (List Part)
 subsections zero i o before at n r = refused (fault 0 at 0)
-subsections (suc d) i o before at zero r = found []
+subsections (suc d) i o before at zero r = found before
 subsections (suc d) i o before at (suc m) r =
     andThen (subsection i o before at (suc m) r)
-    (λ p.
-    andThen (subsections d i o (p ∷ before) (at + stated r) (suc m - stated r) (drop (stated r) r))
-    (λ ps. found (p ∷ ps)))
+    (λ p. subsections d i o (before ++ p ∷ []) (at + stated r) (suc m - stated r) (drop (stated r) r))
 
 -- ---- sections
 
@@ -149,7 +151,7 @@ sectionRest full i k before at r =
 unfoldable pub section : Bool → ℕ → List Section → ℕ → List ℕ → Outcome Section
 section full i before at r =
     need (leb 4 (length r)) (fault 6 at 0)
-    (elim (sectionKind (getD r 0 0)) [
+    (elim (sectionKind (idOf r)) [
       | none ↦ refused (fault 7 at 0)
       | some k ↦
           need (allZero (bytesAt r 1 1)) (fault 8 at 1)
@@ -159,15 +161,14 @@ section full i before at r =
           (tested at (fieldChecks i k r) (sectionRest full i k before at r)))))
     ])
 
--- the sections that tile r; d turns are enough where d is more than its length. The missing section 14 comes last
+-- the sections that tile r, behind the earlier ones; d turns are enough where d is more than its length.
+-- The missing section 14 comes last
 unfoldable pub sections : ℕ → Bool → ℕ → List Section → ℕ → List ℕ → Outcome (List Section)
 sections zero full i before at r = refused (fault 0 at 0)
-sections (suc d) full i before at [] = need (not full || kindBefore information before) (fault 20 at 0) (found [])
+sections (suc d) full i before at [] = need (not full || kindBefore information before) (fault 20 at 0) (found before)
 sections (suc d) full i before at (b ∷ bs) =
     andThen (section full i before at (b ∷ bs))
-    (λ s.
-    andThen (sections d full i (s ∷ before) (at + stated (b ∷ bs)) (drop (stated (b ∷ bs)) (b ∷ bs)))
-    (λ ss. found (s ∷ ss)))
+    (λ s. sections d full i (before ++ s ∷ []) (at + stated (b ∷ bs)) (drop (stated (b ∷ bs)) (b ∷ bs)))
 
 -- ---- the token and the draft
 
@@ -180,11 +181,11 @@ lengthAllowed false bs = leb 8 (stated bs) && leb (stated bs) 3500 && leb (state
 unfoldable pub reading : Bool → List ℕ → Outcome (List Section)
 reading full bs =
     need (leb 8 (length bs)) (fault 1 0 0)
-    (need (knownId (getD bs 0 0)) (fault 2 0 0)
+    (need (knownId (idOf bs)) (fault 2 0 0)
     (need (allZero (bytesAt bs 1 1)) (fault 3 0 1)
     (need (lengthAllowed full bs) (fault 4 0 2)
     (need (allZero (bytesAt bs 4 4)) (fault 5 0 3)
-    (sections (suc (stated bs)) full (getD bs 0 0) [] 8 (drop 8 (take (stated bs) bs)))))))
+    (sections (suc (stated bs)) full (idOf bs) [] 8 (drop 8 (take (stated bs) bs)))))))
 
 -- the parts of the sections, in order
 abbrev pub partsOf : List Section → List Part

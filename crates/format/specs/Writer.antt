@@ -10,7 +10,7 @@ use Rattle.format.specs.Parts.{Kind, publicKey, rule, transportVariant, 
 use Rattle.format.specs.Parts.{name, information, protection, dates, applicationData, layout, Part, size, written, joins}
 use Rattle.format.specs.Legal.{knownId}
 use Rattle.format.specs.Rules.{Section}
-use Rattle.format.specs.Reading.{Outcome, refused, found, fault, need, andThen, stated, reading, partsOf, told}
+use Rattle.format.specs.Reading.{Outcome, refused, found, fault, need, andThen, idOf, stated, reading, partsOf, told}
 use Rattle.format.specs.declared.Answer.{Answer}
 
 -- the answer of a call that writes: the refusal, or the draft's length
@@ -28,7 +28,7 @@ start i d = need (leb 8 (length d)) (fault 23 0 0) (need (knownId i) (fault 2 0 
 
 -- the draft longer by one part: the written form of its identifier, its parts and the added one
 abbrev pub longer : List ℕ → List Section → Part → List ℕ
-longer d ss p = written (getD d 0 0) (partsOf ss ++ p ∷ [])
+longer d ss p = written (idOf d) (partsOf ss ++ p ∷ [])
 
 -- an addition: the draft's own fault; 24; 25; 23; then what reading the longer draft gives
 unfoldable pub addition : Kind → Fields → List ℕ → Outcome (List ℕ)
