@@ -11,7 +11,7 @@ use Rattle.format.specs.Bytes.{number, bytesAt, allZero, sameBytes}
 use Rattle.format.specs.Layout.{Item, code, zeros, own, count, fixed, counted, least, Slot, slots, slotBytes, fieldsIn, endOf}
 use Rattle.format.specs.Parts.{Kind, rule, information, exportParameters, tokenParameters, body, layout, frameLength, kinds, isSubsection, sectionId}
 use Rattle.format.specs.Parts.{sameKind, sectionKind, subsectionKind, Part, size}
-use Rattle.format.specs.Rules.{Check, checks, Section, has, sameRuleId, maskCovers, hasRequired}
+use Rattle.format.specs.Rules.{Check, check, checks, Section, has, sameRuleId, maskCovers, hasRequired}
 use Rattle.format.specs.Legal.{knownId}
 use Rattle.format.specs.declared.Answer.{Answer}
 use Rattle.format.specs.declared.Answer.the-variants.{Accepted, Refused}
@@ -73,7 +73,7 @@ zeroChecks j r (s ∷ ss) =
     let rest = zeroChecks (suc j) r ss in
     elim (s .item) [
       | code w v ↦ rest
-      | zeros n q ↦ record { field = j; refusal = q; holds = allZero (slotBytes r s) } ∷ rest
+      | zeros n q ↦ check j q (allZero (slotBytes r s)) ∷ rest
       | own w ↦ rest
       | count w k ↦ rest
       | fixed n ↦ rest
@@ -91,18 +91,23 @@ tested at (c ∷ cs) rest = need (c .holds) (fault (c .refusal) at (c .field)) (
 
 -- ---- subsections
 
--- the subsection at the front of r, in a section of kind o with n bytes left; `before` are the section's earlier ones
+-- the tests of a subsection of kind k, in order: its length; its tag among the section's earlier subsections; its
+-- version; its inner lengths; its fields. n bytes are left of the section
+abbrev pub subsectionChecks : ℕ → Kind → List Part → ℕ → List ℕ → List Check
+subsectionChecks i k before n r =
+    check 1 12 (leb (least (layout k)) (stated r) && leb (stated r) n)
+    ∷ check 0 14 (not (has k before))
+    ∷ check 2 8 (allZero (bytesAt r 4 1))
+    ∷ check 1 12 (eqb (madeLength k r) (stated r))
+    ∷ fieldChecks i k r
+
+-- the subsection at the front of r, in a section of kind o
 unfoldable pub subsection : ℕ → Kind → List Part → ℕ → ℕ → List ℕ → Outcome Part
 subsection i o before at n r =
     need (leb 4 n) (fault 12 at 0)
     (elim (subsectionKind o (number (bytesAt r 0 2))) [
       | none ↦ refused (fault 13 at 0)
-      | some k ↦
-          need (leb (least (layout k)) (stated r) && leb (stated r) n) (fault 12 at 1)
-          (need (not (has k before)) (fault 14 at 0)
-          (need (allZero (bytesAt r 4 1)) (fault 8 at 2)
-          (need (eqb (madeLength k r) (stated r)) (fault 12 at 1)
-          (tested at (fieldChecks i k r) (found (partIn k r))))))
+      | some k ↦ tested at (subsectionChecks i k before n r) (found (partIn k r))
     ])
 
 -- the subsections that tile the next n bytes, behind the earlier ones; d turns are enough where d is more than n
@@ -129,23 +134,34 @@ abbrev pub ruleBefore : Part → List Section → Bool
 ruleBefore p [] = false
 ruleBefore p (s ∷ ss) = (sameKind rule (s .head .kind) && sameRuleId p (s .head)) || ruleBefore p ss
 
+-- the tests of a section of kind k, in order: its version; its length; its kind among the earlier sections; its inner
+-- lengths; its fields; its Rule ID among the earlier rules
+abbrev pub sectionChecks : ℕ → Kind → List Section → List ℕ → List Check
+sectionChecks i k before r =
+    check 1 8 (allZero (bytesAt r 1 1))
+    ∷ check 2 6 (leb (least (layout k)) (stated r) && leb (stated r) (length r))
+    ∷ check 0 9 (sameKind rule k || not (kindBefore k before))
+    ∷ check 2 15 (holdsSubs k || eqb (madeLength k r) (stated r))
+    ∷ fieldChecks i k r
+    ++ (check 3 9 (not (sameKind rule k && ruleBefore (partIn k r) before)) ∷ [])
+
 -- the place of the first subsection of the kind, where the subsections begin at this place
 abbrev pub placeOf : Kind → ℕ → List Part → ℕ
 placeOf k at [] = at
 placeOf k at (p ∷ ps) = elim (sameKind k (p .kind)) [ true ↦ at | false ↦ placeOf k (at + size p) ps ]
 
--- the end of a section with its subsections: 0005 against 0003, then what is required
+-- the end of a section whose subsections begin at place `first`: 0005 against 0003, then what is required
 unfoldable pub closed : Bool → ℕ → ℕ → Section → Outcome Section
 closed full at first s =
     need (maskCovers (s .subs)) (fault 18 (placeOf tokenParameters first (s .subs)) 5)
     (need (not full || hasRequired s) (fault 20 at 0) (found s))
 
--- the section at the front of r, behind its fixed tests: its Rule ID, its subsections, its end
-unfoldable pub sectionRest : Bool → ℕ → Kind → List Section → ℕ → List ℕ → Outcome Section
-sectionRest full i k before at r =
-    need (not (sameKind rule k && ruleBefore (partIn k r) before)) (fault 9 at 3)
-    (andThen (subsections (suc (stated r)) i k [] (at + madeLength k r) (stated r - madeLength k r) (drop (madeLength k r) r))
-    (λ ps. closed full at (at + madeLength k r) (record { head = partIn k r; subs = ps })))
+-- the subsections of the section of kind k at the front of r, and its end
+unfoldable pub sectionRest : Bool → ℕ → Kind → ℕ → List ℕ → Outcome Section
+sectionRest full i k at r =
+    let n = madeLength k r in
+    andThen (subsections (suc (stated r)) i k [] (at + n) (stated r - n) (drop n r))
+    (λ ps. closed full at (at + n) (record { head = partIn k r; subs = ps }))
 
 -- the section at the front of r; `before` are the token's earlier sections
 unfoldable pub section : Bool → ℕ → List Section → ℕ → List ℕ → Outcome Section
@@ -153,12 +169,7 @@ section full i before at r =
     need (leb 4 (length r)) (fault 6 at 0)
     (elim (sectionKind (idOf r)) [
       | none ↦ refused (fault 7 at 0)
-      | some k ↦
-          need (allZero (bytesAt r 1 1)) (fault 8 at 1)
-          (need (leb (least (layout k)) (stated r) && leb (stated r) (length r)) (fault 6 at 2)
-          (need (sameKind rule k || not (kindBefore k before)) (fault 9 at 0)
-          (need (holdsSubs k || eqb (madeLength k r) (stated r)) (fault 15 at 2)
-          (tested at (fieldChecks i k r) (sectionRest full i k before at r)))))
+      | some k ↦ tested at (sectionChecks i k before r) (sectionRest full i k at r)
     ])
 
 -- the sections that tile r, behind the earlier ones; d turns are enough where d is more than its length.
@@ -177,15 +188,21 @@ abbrev pub lengthAllowed : Bool → List ℕ → Bool
 lengthAllowed true bs = leb (length bs) 3500 && eqb (stated bs) (length bs)
 lengthAllowed false bs = leb 8 (stated bs) && leb (stated bs) 3500 && leb (stated bs) (length bs)
 
--- the reading of a token (true) or of a draft (false)
+-- the tests of the header, in order
+abbrev pub headerChecks : Bool → List ℕ → List Check
+headerChecks full bs =
+    check 0 1 (leb 8 (length bs))
+    ∷ check 0 2 (knownId (idOf bs))
+    ∷ check 1 3 (allZero (bytesAt bs 1 1))
+    ∷ check 2 4 (lengthAllowed full bs)
+    ∷ check 3 5 (allZero (bytesAt bs 4 4))
+    ∷ []
+
+-- the reading of a token (true) or of a draft (false): the header, then section by section
 unfoldable pub reading : Bool → List ℕ → Outcome (List Section)
 reading full bs =
-    need (leb 8 (length bs)) (fault 1 0 0)
-    (need (knownId (idOf bs)) (fault 2 0 0)
-    (need (allZero (bytesAt bs 1 1)) (fault 3 0 1)
-    (need (lengthAllowed full bs) (fault 4 0 2)
-    (need (allZero (bytesAt bs 4 4)) (fault 5 0 3)
-    (sections (suc (stated bs)) full (idOf bs) [] 8 (drop 8 (take (stated bs) bs)))))))
+    tested 0 (headerChecks full bs)
+    (sections (suc (stated bs)) full (idOf bs) [] 8 (drop 8 (take (stated bs) bs)))
 
 -- the parts of the sections, in order
 abbrev pub partsOf : List Section → List Part

@@ -18,7 +18,7 @@ pub record Check : Type 0 where
   pub refusal : ℕ
   pub holds : Bool
 
-abbrev check : ℕ → ℕ → Bool → Check
+abbrev pub check : ℕ → ℕ → Bool → Check
 check f n b = record { field = f; refusal = n; holds = b }
 
 abbrev pub external : ℕ → Bool
