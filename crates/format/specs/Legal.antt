@@ -7,7 +7,7 @@ use lib.Dec.{eqb}
 use lib.ListN.{length}
 use Rattle.format.specs.Bytes.{All, Bytes}
 use Rattle.format.specs.Parts.{Kind, rule, information, sameKind, Part, WrittenForm}
-use Rattle.format.specs.Rules.{Check, checks, Section, sectionsOf, mayBothStand, otherKind, maskCovers, has, hasRequired}
+use Rattle.format.specs.Rules.{Check, external, checks, Section, sectionsOf, mayBothStand, otherKind, maskCovers, has, hasRequired}
 
 -- any two elements of the list, the earlier first, pass the test
 abbrev pub Pairwise : {A : Type 0} → (A → A → Bool) → List A → Type 0
@@ -21,7 +21,7 @@ knownId i = eqb i 0x1E || eqb i 0x1F
 -- the choice keeps every rule but those of refusal 20
 pub record Lawful (i : ℕ) (ps : List Part) : Type 0 where
   pub identifier : knownId i ≡ true
-  pub fields : All (λ (p : Part). All (λ (c : Check). c .holds ≡ true) (checks i (p .kind) (p .fields))) ps
+  pub fields : All (λ (p : Part). All (λ (c : Check). c .holds ≡ true) (checks (external i) (p .kind) (p .fields))) ps
   pub sections : Pairwise mayBothStand (sectionsOf ps)
   pub tags : All (λ (s : Section). Pairwise otherKind (s .subs)) (sectionsOf ps)
   pub masks : All (λ (s : Section). maskCovers (s .subs) ≡ true) (sectionsOf ps)

@@ -11,7 +11,7 @@ use Rattle.format.specs.Bytes.{number, bytesAt, allZero, sameBytes}
 use Rattle.format.specs.Layout.{Item, code, zeros, own, count, fixed, counted, least, Slot, slots, slotBytes, fieldsIn, endOf}
 use Rattle.format.specs.Parts.{Kind, rule, information, exportParameters, tokenParameters, body, layout, frameLength, kinds, isSubsection, sectionId}
 use Rattle.format.specs.Parts.{sameKind, sectionKind, subsectionKind, Part, size}
-use Rattle.format.specs.Rules.{Check, check, checks, Section, has, sameRuleId, maskCovers, hasRequired}
+use Rattle.format.specs.Rules.{Check, check, external, checks, Section, has, sameRuleId, maskCovers, hasRequired}
 use Rattle.format.specs.Legal.{knownId}
 use Rattle.format.specs.declared.Answer.{Answer}
 use Rattle.format.specs.declared.Answer.the-variants.{Accepted, Refused}
@@ -80,9 +80,10 @@ zeroChecks j r (s ∷ ss) =
       | counted c ↦ rest
     ]
 
--- the tests of the part's fields in rising offset: in every layout what is always 0 stands before the chosen fields
-abbrev pub fieldChecks : ℕ → Kind → List ℕ → List Check
-fieldChecks i k r = zeroChecks 3 r (bodySlots k r) ++ checks i k (partIn k r .fields)
+-- the tests of the part's fields in rising offset, x for an external token: in every layout what is always 0 stands
+-- before the chosen fields
+abbrev pub fieldChecks : Bool → Kind → List ℕ → List Check
+fieldChecks x k r = zeroChecks 3 r (bodySlots k r) ++ checks x k (partIn k r .fields)
 
 -- the tests one after another, for the part at this place
 unfoldable pub tested : {A : Type 0} → ℕ → List Check → Outcome A → Outcome A
@@ -91,32 +92,32 @@ tested at (c ∷ cs) rest = need (c .holds) (fault (c .refusal) at (c .field)) (
 
 -- ---- subsections
 
--- the tests of a subsection of kind k, in order: its length; its tag among the section's earlier subsections; its
--- version; its inner lengths; its fields. n bytes are left of the section
-abbrev pub subsectionChecks : ℕ → Kind → List Part → ℕ → List ℕ → List Check
-subsectionChecks i k before n r =
+-- the tests of a subsection of kind k, in order: its length in the n bytes that are left of the section; its tag, where
+-- `seen` says that it stands before; its version; its inner lengths; its fields
+abbrev pub subsectionChecks : Bool → Kind → Bool → ℕ → List ℕ → List Check
+subsectionChecks x k seen n r =
     check 1 12 (leb (least (layout k)) (stated r) && leb (stated r) n)
-    ∷ check 0 14 (not (has k before))
+    ∷ check 0 14 (not seen)
     ∷ check 2 8 (allZero (bytesAt r 4 1))
     ∷ check 1 12 (eqb (madeLength k r) (stated r))
-    ∷ fieldChecks i k r
+    ∷ fieldChecks x k r
 
--- the subsection at the front of r, in a section of kind o
-unfoldable pub subsection : ℕ → Kind → List Part → ℕ → ℕ → List ℕ → Outcome Part
-subsection i o before at n r =
+-- the subsection at the front of r, in a section of kind o; `before` are the section's earlier ones
+unfoldable pub subsection : Bool → Kind → List Part → ℕ → ℕ → List ℕ → Outcome Part
+subsection x o before at n r =
     need (leb 4 n) (fault 12 at 0)
     (elim (subsectionKind o (number (bytesAt r 0 2))) [
       | none ↦ refused (fault 13 at 0)
-      | some k ↦ tested at (subsectionChecks i k before n r) (found (partIn k r))
+      | some k ↦ tested at (subsectionChecks x k (has k before) n r) (found (partIn k r))
     ])
 
 -- the subsections that tile the next n bytes, behind the earlier ones; d turns are enough where d is more than n
-unfoldable pub subsections : ℕ → ℕ → Kind → List Part → ℕ → ℕ → List ℕ → Outcome (List Part)
-subsections zero i o before at n r = refused (fault 0 at 0)
-subsections (suc d) i o before at zero r = found before
-subsections (suc d) i o before at (suc m) r =
-    andThen (subsection i o before at (suc m) r)
-    (λ p. subsections d i o (before ++ p ∷ []) (at + stated r) (suc m - stated r) (drop (stated r) r))
+unfoldable pub subsections : ℕ → Bool → Kind → List Part → ℕ → ℕ → List ℕ → Outcome (List Part)
+subsections zero x o before at n r = refused (fault 0 at 0)
+subsections (suc d) x o before at zero r = found before
+subsections (suc d) x o before at (suc m) r =
+    andThen (subsection x o before at (suc m) r)
+    (λ p. subsections d x o (before ++ p ∷ []) (at + stated r) (suc m - stated r) (drop (stated r) r))
 
 -- ---- sections
 
@@ -134,16 +135,16 @@ abbrev pub ruleBefore : Part → List Section → Bool
 ruleBefore p [] = false
 ruleBefore p (s ∷ ss) = (sameKind rule (s .head .kind) && sameRuleId p (s .head)) || ruleBefore p ss
 
--- the tests of a section of kind k, in order: its version; its length; its kind among the earlier sections; its inner
--- lengths; its fields; its Rule ID among the earlier rules
-abbrev pub sectionChecks : ℕ → Kind → List Section → List ℕ → List Check
-sectionChecks i k before r =
+-- the tests of a section of kind k, in order: its version; its length; its kind, where `seen` says that it stands before;
+-- its inner lengths; its fields; its Rule ID, where `repeated` says that a rule before has the same
+abbrev pub sectionChecks : Bool → Kind → Bool → Bool → List ℕ → List Check
+sectionChecks x k seen repeated r =
     check 1 8 (allZero (bytesAt r 1 1))
     ∷ check 2 6 (leb (least (layout k)) (stated r) && leb (stated r) (length r))
-    ∷ check 0 9 (sameKind rule k || not (kindBefore k before))
+    ∷ check 0 9 (sameKind rule k || not seen)
     ∷ check 2 15 (holdsSubs k || eqb (madeLength k r) (stated r))
-    ∷ fieldChecks i k r
-    ++ (check 3 9 (not (sameKind rule k && ruleBefore (partIn k r) before)) ∷ [])
+    ∷ fieldChecks x k r
+    ++ (check 3 9 (not (sameKind rule k && repeated)) ∷ [])
 
 -- the place of the first subsection of the kind, where the subsections begin at this place
 abbrev pub placeOf : Kind → ℕ → List Part → ℕ
@@ -157,29 +158,29 @@ closed full at first s =
     (need (not full || hasRequired s) (fault 20 at 0) (found s))
 
 -- the subsections of the section of kind k at the front of r, and its end
-unfoldable pub sectionRest : Bool → ℕ → Kind → ℕ → List ℕ → Outcome Section
-sectionRest full i k at r =
+unfoldable pub sectionRest : Bool → Bool → Kind → ℕ → List ℕ → Outcome Section
+sectionRest full x k at r =
     let n = madeLength k r in
-    andThen (subsections (suc (stated r)) i k [] (at + n) (stated r - n) (drop n r))
+    andThen (subsections (suc (stated r)) x k [] (at + n) (stated r - n) (drop n r))
     (λ ps. closed full at (at + n) (record { head = partIn k r; subs = ps }))
 
 -- the section at the front of r; `before` are the token's earlier sections
-unfoldable pub section : Bool → ℕ → List Section → ℕ → List ℕ → Outcome Section
-section full i before at r =
+unfoldable pub section : Bool → Bool → List Section → ℕ → List ℕ → Outcome Section
+section full x before at r =
     need (leb 4 (length r)) (fault 6 at 0)
     (elim (sectionKind (idOf r)) [
       | none ↦ refused (fault 7 at 0)
-      | some k ↦ tested at (sectionChecks i k before r) (sectionRest full i k at r)
+      | some k ↦ tested at (sectionChecks x k (kindBefore k before) (ruleBefore (partIn k r) before) r) (sectionRest full x k at r)
     ])
 
 -- the sections that tile r, behind the earlier ones; d turns are enough where d is more than its length.
 -- The missing section 14 comes last
-unfoldable pub sections : ℕ → Bool → ℕ → List Section → ℕ → List ℕ → Outcome (List Section)
-sections zero full i before at r = refused (fault 0 at 0)
-sections (suc d) full i before at [] = need (not full || kindBefore information before) (fault 20 at 0) (found before)
-sections (suc d) full i before at (b ∷ bs) =
-    andThen (section full i before at (b ∷ bs))
-    (λ s. sections d full i (before ++ s ∷ []) (at + stated (b ∷ bs)) (drop (stated (b ∷ bs)) (b ∷ bs)))
+unfoldable pub sections : ℕ → Bool → Bool → List Section → ℕ → List ℕ → Outcome (List Section)
+sections zero full x before at r = refused (fault 0 at 0)
+sections (suc d) full x before at [] = need (not full || kindBefore information before) (fault 20 at 0) (found before)
+sections (suc d) full x before at (b ∷ bs) =
+    andThen (section full x before at (b ∷ bs))
+    (λ s. sections d full x (before ++ s ∷ []) (at + stated (b ∷ bs)) (drop (stated (b ∷ bs)) (b ∷ bs)))
 
 -- ---- the token and the draft
 
@@ -202,7 +203,7 @@ headerChecks full bs =
 unfoldable pub reading : Bool → List ℕ → Outcome (List Section)
 reading full bs =
     tested 0 (headerChecks full bs)
-    (sections (suc (stated bs)) full (idOf bs) [] 8 (drop 8 (take (stated bs) bs)))
+    (sections (suc (stated bs)) full (external (idOf bs)) [] 8 (drop 8 (take (stated bs) bs)))
 
 -- the parts of the sections, in order
 abbrev pub partsOf : List Section → List Part

@@ -67,8 +67,8 @@ abbrev pub labelLength : List ℕ → Bool
 labelLength f = eqb (length f) 0 || eqb (length f) 64
 
 -- the MKVP of an external token is all zero
-abbrev pub patternAllowed : ℕ → List ℕ → Bool
-patternAllowed i f = not (external i) || allZero f
+abbrev pub patternAllowed : Bool → List ℕ → Bool
+patternAllowed x f = not x || allZero f
 
 -- the rules of the dates, with the field's number: both exist, activation is not after expiration
 abbrev pub dateRules : List ℕ → List ℕ → List ℕ → List Check
@@ -78,9 +78,9 @@ dateRules flags activation expiration =
     ∷ check 6 19 (inOrder activation expiration)
     ∷ []
 
--- the rules on the fields of a kind, in the order in which they are tested; i is the token's identifier
-abbrev pub checks : ℕ → Kind → Fields → List Check
-checks i publicKey f =
+-- the rules on the fields of a kind, in the order in which they are tested; x says that the token is external
+abbrev pub checks : Bool → Kind → Fields → List Check
+checks x publicKey f =
     check 4 16 (exponentLength (getD f 1 []))
     ∷ check 5 16 (modulusBits (number (getD f 0 [])))
     ∷ check 6 16 (fewestBytes (number (getD f 0 [])) (length (getD f 2 [])))
@@ -88,7 +88,7 @@ checks i publicKey f =
     ∷ check 7 16 (exponentForm (getD f 1 []) (getD f 2 []))
     ∷ check 9 11 (keyFlags (getD f 3 []))
     ∷ []
-checks i rule f =
+checks x rule f =
     check 3 17 (ruleIdForm (getD f 0 []))
     ∷ check 4 11 (zeroOrOne (getD f 1 []))
     ∷ check 5 11 (generatedLength (getD f 1 []) (getD f 2 []))
@@ -96,26 +96,26 @@ checks i rule f =
     ∷ check 7 11 (symmetricFormat (getD f 1 []) (getD f 4 []))
     ∷ check 8 11 (zeroToTwo (getD f 5 []))
     ∷ []
-checks i transportVariant f = []
-checks i transportRule f = check 4 17 (ruleIdForm (getD f 0 [])) ∷ []
-checks i exportParameters f =
+checks x transportVariant f = []
+checks x transportRule f = check 4 17 (ruleIdForm (getD f 0 [])) ∷ []
+checks x exportParameters f =
     check 5 18 (keyLength (number (getD f 0 [])))
     ∷ check 6 18 (keyLength (number (getD f 1 [])))
     ∷ check 6 18 (leb (number (getD f 0 [])) (number (getD f 1 [])))
     ∷ check 7 18 (variantLength (getD f 1 []) (getD f 2 []))
     ∷ check 9 18 (controlLength (getD f 3 []))
     ∷ []
-checks i sourceRule f = check 4 17 (ruleIdForm (getD f 0 [])) ∷ []
-checks i tokenParameters f =
+checks x sourceRule f = check 4 17 (ruleIdForm (getD f 0 [])) ∷ []
+checks x tokenParameters f =
     check 5 18 (controlLength (getD f 0 []))
     ∷ check 8 18 (labelLength (getD f 2 []))
     ∷ check 9 17 (eqb (length (getD f 2 [])) 0 || labelForm (getD f 2 []))
     ∷ []
-checks i name f = []
-checks i information f = check 4 11 (zeroOrOne (getD f 0 [])) ∷ []
-checks i protection f = check 6 21 (patternAllowed i (getD f 2 [])) ∷ []
-checks i dates f = check 4 11 (zeroOrOne (getD f 0 [])) ∷ dateRules (getD f 0 []) (getD f 1 []) (getD f 2 [])
-checks i applicationData f = []
+checks x name f = []
+checks x information f = check 4 11 (zeroOrOne (getD f 0 [])) ∷ []
+checks x protection f = check 6 21 (patternAllowed x (getD f 2 [])) ∷ []
+checks x dates f = check 4 11 (zeroOrOne (getD f 0 [])) ∷ dateRules (getD f 0 []) (getD f 1 []) (getD f 2 [])
+checks x applicationData f = []
 
 -- ---- the rules between parts
 

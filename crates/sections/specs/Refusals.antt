@@ -1,0 +1,34 @@
+-- Internal: a list of tests as the number of the first refusal, as the code returns it.
+use mathlib.Core.Bool.{Bool, true, false, not, _&&_}
+use mathlib.Core.List.{List, [], _∷_}
+use Prim.Native.Nat.{ℕ, zero, suc}
+use lib.Dec.{leb}
+use lib.ListN.{length}
+use Rattle.format.specs.Bytes.{allZero, bytesAt}
+use Rattle.format.specs.Parts.{Part}
+use Rattle.format.specs.Rules.{Check, check, Section}
+use Rattle.format.specs.Reading.{stated}
+use Rattle.format.specs.declared.Answer.{Answer}
+use Rattle.format.specs.declared.Answer.the-variants.{Accepted, Refused}
+
+-- the number of the first test that fails, 0 where all pass
+unfoldable pub firstRefusal : List Check → ℕ
+firstRefusal [] = 0
+firstRefusal (c ∷ cs) = elim (c .holds) [ true ↦ firstRefusal cs | false ↦ c .refusal ]
+
+-- the refusal with this number at a place, and the rest where the number is 0
+unfoldable pub unless : ℕ → ℕ → Answer → Answer
+unless zero at rest = rest
+unless (suc n) at rest = Refused (suc n) at
+
+-- the rows that a section makes: its own and those of its subsections
+abbrev pub sectionRows : Section → ℕ
+sectionRows s = suc (length (s .subs))
+
+-- the tests of a section's version, length and kind; `seen` says that its kind stands before
+unfoldable pub headChecks : ℕ → Bool → List ℕ → List Check
+headChecks n seen r =
+    check 1 8 (allZero (bytesAt r 1 1))
+    ∷ check 2 6 (leb n (stated r) && leb (stated r) (length r))
+    ∷ check 0 9 (not seen)
+    ∷ []
