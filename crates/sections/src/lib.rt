@@ -1,7 +1,7 @@
 // Internal: the checks of each kind of section and subsection, each test once and in order. The functions ask that the
 // bytes are there that earlier tests have shown to be there.
 ghost use mathlib.Core.Path.{_≡_};
-ghost use mathlib.Core.List.{List};
+ghost use mathlib.Core.Bool.{Bool};
 ghost use Prim.Native.Nat.{ℕ, _+_, _<_, _≤_};
 ghost use lib.ListN.{length, drop};
 ghost use Rattle.format.specs.Parts.{information};
@@ -34,7 +34,7 @@ fn section_head(s: &[u8], p: usize, least: usize, seen: bool) -> u32
 // The fields of the section 14 at p.
 fn information_fields(s: &[u8], p: usize) -> u32
     requires { ⌜ (p + 10 ≤ length (now s)) × (length (now s) ≤ 3500) ⌝ }
-    ensures { λ r. ⌜ ((i : ℕ) → r ≡ firstRefusal (fieldChecks i information (drop p (now (s .entry))))) ⌝ }
+    ensures { λ r. ⌜ ((x : Bool) → r ≡ firstRefusal (fieldChecks x information (drop p (now (s .entry))))) ⌝ }
 {
     if two(s, p + 4) != 0 {
         return 10;

@@ -22,7 +22,10 @@ two-requires c κs = search needs
 -- src/lib.rt:39:9
 returns : tie.Need-returns
 returns c =
-    λ i. stop _ _ (zero-not (c .before .before .before .args .s .now) (c .before .before .before .args .p) 4 2 (c .before .two .ensures .0) (c .if1 .taken))
+    λ x.
+    let s = c .before .before .before .args .s .now in
+    let p = c .before .before .before .args .p in
+    stop _ _ (zero-not s p 4 2 (c .before .two .ensures .0) (c .if1 .taken))
 
 -- src/lib.rt:41:20
 add-four : tie.Need-add-four
@@ -35,14 +38,20 @@ four-requires c κs = search needs
 -- src/lib.rt:42:9
 returns-2 : tie.Need-returns-2
 returns-2 c =
-    λ i. pass _ _ (zero-yes (c .before .before .before .before .before .args .s .now) (c .before .before .before .before .before .args .p) 4 2 (c .before .before .before .two .ensures .0) (c .before .before .if1 .left))
-    (stop _ _ (above (c .before .before .before .before .before .args .s .now) (c .before .before .before .before .before .args .p) 6 4 (c .before .four .ensures) 1 (c .if2 .taken)))
+    λ x.
+    let s = c .before .before .before .before .before .args .s .now in
+    let p = c .before .before .before .before .before .args .p in
+    pass _ _ (zero-yes s p 4 2 (c .before .before .before .two .ensures .0) (c .before .before .if1 .left))
+    (stop _ _ (above s p 6 4 (c .before .four .ensures) 1 (c .if2 .taken)))
 
 -- src/lib.rt:34:1
 returns-3 : tie.Need-returns-3
 returns-3 c =
-    λ i. pass _ _ (zero-yes (c .before .before .before .before .before .args .s .now) (c .before .before .before .before .before .args .p) 4 2 (c .before .before .before .two .ensures .0) (c .before .before .if1 .left))
-    (pass _ _ (at-most (c .before .before .before .before .before .args .s .now) (c .before .before .before .before .before .args .p) 6 4 (c .before .four .ensures) 1 (c .if2 .left))
+    λ x.
+    let s = c .before .before .before .before .before .args .s .now in
+    let p = c .before .before .before .before .before .args .p in
+    pass _ _ (zero-yes s p 4 2 (c .before .before .before .two .ensures .0) (c .before .before .if1 .left))
+    (pass _ _ (at-most s p 6 4 (c .before .four .ensures) 1 (c .if2 .left))
     (none))
 
 pub information-fields-spec : {M : Type 1} → statement M

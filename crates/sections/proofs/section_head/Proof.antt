@@ -26,7 +26,9 @@ shared-slice-read-if1 c = search needs
 returns : tie.Need-returns
 unfolding headChecks
 returns c =
-    stop _ _ (zero-not (c .before .before .before .args .s .now) (c .before .before .before .args .p) 1 1 (byte-number (c .before .before .before .args .s .now) ((c .before .before .before .args .p) + 1) (search needs)) (c .if1 .taken))
+    let s = c .before .before .before .args .s .now in
+    let p = c .before .before .before .args .p in
+    stop _ _ (zero-not s p 1 1 (byte-number s (p + 1) (omega arith)) (c .if1 .taken))
 
 -- src/lib.rt:20:22
 add-two : tie.Need-add-two
@@ -40,8 +42,10 @@ two-requires c κs = search needs
 returns-2 : tie.Need-returns-2
 unfolding headChecks
 returns-2 c =
-    pass _ _ (zero-yes (c .before .before .before .before .before .args .s .now) (c .before .before .before .before .before .args .p) 1 1 (byte-number (c .before .before .before .before .before .args .s .now) ((c .before .before .before .before .before .args .p) + 1) (search needs)) (c .before .before .if1 .left))
-    (stop _ _ (first-not _ (below (c .before .before .before .before .before .args .s .now) (c .before .before .before .before .before .args .p) 2 2 (c .before .two .ensures .0) (c .before .before .before .before .before .args .least) (c .if2 .taken))))
+    let s = c .before .before .before .before .before .args .s .now in
+    let p = c .before .before .before .before .before .args .p in
+    pass _ _ (zero-yes s p 1 1 (byte-number s (p + 1) (omega arith)) (c .before .before .if1 .left))
+    (stop _ _ (first-not _ (below s p 2 2 (c .before .two .ensures .0) (c .before .before .before .before .before .args .least) (c .if2 .taken))))
 
 -- src/lib.rt:24:8
 sub-if3 : tie.Need-sub-if3
@@ -51,23 +55,29 @@ sub-if3 c = search needs
 returns-3 : tie.Need-returns-3
 unfolding headChecks
 returns-3 c =
-    pass _ _ (zero-yes (c .before .before .before .before .before .before .args .s .now) (c .before .before .before .before .before .before .args .p) 1 1 (byte-number (c .before .before .before .before .before .before .args .s .now) ((c .before .before .before .before .before .before .args .p) + 1) (search needs)) (c .before .before .before .if1 .left))
-    (stop _ _ (second-not (at-least (c .before .before .before .before .before .before .args .s .now) (c .before .before .before .before .before .before .args .p) 2 2 (c .before .before .two .ensures .0) (c .before .before .before .before .before .before .args .least) (c .before .if2 .left)) (lt-leb (number (bytesAt (drop (c .before .before .before .before .before .before .args .p) (c .before .before .before .before .before .before .args .s .now)) 2 2)) (length (drop (c .before .before .before .before .before .before .args .p) (c .before .before .before .before .before .before .args .s .now))) (omega (arith, (length-drop (c .before .before .before .before .before .before .args .p) (c .before .before .before .before .before .before .args .s .now)), number-at (c .before .before .before .before .before .before .args .s .now) (c .before .before .before .before .before .before .args .p) 2 2 (c .before .before .two .ensures .0))))))
+    let s = c .before .before .before .before .before .before .args .s .now in
+    let p = c .before .before .before .before .before .before .args .p in
+    pass _ _ (zero-yes s p 1 1 (byte-number s (p + 1) (omega arith)) (c .before .before .before .if1 .left))
+    (stop _ _ (second-not (at-least s p 2 2 (c .before .before .two .ensures .0) (c .before .before .before .before .before .before .args .least) (c .before .if2 .left)) (lt-leb (number (bytesAt (drop p s) 2 2)) (length (drop p s)) (omega (arith, (length-drop p s), number-at s p 2 2 (c .before .before .two .ensures .0))))))
 
 -- src/lib.rt:28:9
 returns-4 : tie.Need-returns-4
 unfolding headChecks
 returns-4 c =
-    pass _ _ (zero-yes (c .before .before .before .before .before .before .before .args .s .now) (c .before .before .before .before .before .before .before .args .p) 1 1 (byte-number (c .before .before .before .before .before .before .before .args .s .now) ((c .before .before .before .before .before .before .before .args .p) + 1) (search needs)) (c .before .before .before .before .if1 .left))
-    (pass _ _ (both-yes (at-least (c .before .before .before .before .before .before .before .args .s .now) (c .before .before .before .before .before .before .before .args .p) 2 2 (c .before .before .before .two .ensures .0) (c .before .before .before .before .before .before .before .args .least) (c .before .before .if2 .left)) (le-leb (number (bytesAt (drop (c .before .before .before .before .before .before .before .args .p) (c .before .before .before .before .before .before .before .args .s .now)) 2 2)) (length (drop (c .before .before .before .before .before .before .before .args .p) (c .before .before .before .before .before .before .before .args .s .now))) (omega (arith, (length-drop (c .before .before .before .before .before .before .before .args .p) (c .before .before .before .before .before .before .before .args .s .now)), number-at (c .before .before .before .before .before .before .before .args .s .now) (c .before .before .before .before .before .before .before .args .p) 2 2 (c .before .before .before .two .ensures .0)))))
+    let s = c .before .before .before .before .before .before .before .args .s .now in
+    let p = c .before .before .before .before .before .before .before .args .p in
+    pass _ _ (zero-yes s p 1 1 (byte-number s (p + 1) (omega arith)) (c .before .before .before .before .if1 .left))
+    (pass _ _ (both-yes (at-least s p 2 2 (c .before .before .before .two .ensures .0) (c .before .before .before .before .before .before .before .args .least) (c .before .before .if2 .left)) (le-leb (number (bytesAt (drop p s) 2 2)) (length (drop p s)) (omega (arith, (length-drop p s), number-at s p 2 2 (c .before .before .before .two .ensures .0)))))
     (stop _ _ (ap not (c .if4 .taken))))
 
 -- src/lib.rt:13:1
 returns-5 : tie.Need-returns-5
 unfolding headChecks
 returns-5 c =
-    pass _ _ (zero-yes (c .before .before .before .before .before .before .before .args .s .now) (c .before .before .before .before .before .before .before .args .p) 1 1 (byte-number (c .before .before .before .before .before .before .before .args .s .now) ((c .before .before .before .before .before .before .before .args .p) + 1) (search needs)) (c .before .before .before .before .if1 .left))
-    (pass _ _ (both-yes (at-least (c .before .before .before .before .before .before .before .args .s .now) (c .before .before .before .before .before .before .before .args .p) 2 2 (c .before .before .before .two .ensures .0) (c .before .before .before .before .before .before .before .args .least) (c .before .before .if2 .left)) (le-leb (number (bytesAt (drop (c .before .before .before .before .before .before .before .args .p) (c .before .before .before .before .before .before .before .args .s .now)) 2 2)) (length (drop (c .before .before .before .before .before .before .before .args .p) (c .before .before .before .before .before .before .before .args .s .now))) (omega (arith, (length-drop (c .before .before .before .before .before .before .before .args .p) (c .before .before .before .before .before .before .before .args .s .now)), number-at (c .before .before .before .before .before .before .before .args .s .now) (c .before .before .before .before .before .before .before .args .p) 2 2 (c .before .before .before .two .ensures .0)))))
+    let s = c .before .before .before .before .before .before .before .args .s .now in
+    let p = c .before .before .before .before .before .before .before .args .p in
+    pass _ _ (zero-yes s p 1 1 (byte-number s (p + 1) (omega arith)) (c .before .before .before .before .if1 .left))
+    (pass _ _ (both-yes (at-least s p 2 2 (c .before .before .before .two .ensures .0) (c .before .before .before .before .before .before .before .args .least) (c .before .before .if2 .left)) (le-leb (number (bytesAt (drop p s) 2 2)) (length (drop p s)) (omega (arith, (length-drop p s), number-at s p 2 2 (c .before .before .before .two .ensures .0)))))
     (pass _ _ (ap not (c .if4 .left))
     (none)))
 
