@@ -4,3 +4,6 @@ pub mod Finding
 pub mod Fitting
 pub mod Unique
 pub mod Runs
+pub mod Slots
+pub mod Tests
+pub mod PartForm

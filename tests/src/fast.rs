@@ -1,0 +1,232 @@
+//! An optimised reader: one pass judges the token, one pass fills the table,
+//! nothing is allocated. Same answers as [`crate::reader`].
+
+mod rules;
+mod sections;
+mod signs;
+
+use crate::reader::Answer;
+use rules::{rule, RuleIds};
+use sections::{information, public_key};
+
+/// The number of a fault and its place.
+type Judged<T> = Result<T, Answer>;
+
+#[cold]
+fn refuse<T>(number: u32, place: usize) -> Judged<T> {
+    Err(Answer {
+        number,
+        second: place as u32,
+    })
+}
+
+/// 0 with the count of rows, or the refusal.
+pub fn fast_read(token: &[u8]) -> Answer {
+    match judge(token) {
+        Ok(rows) => Answer {
+            number: 0,
+            second: rows,
+        },
+        Err(refusal) => refusal,
+    }
+}
+
+/// The same, and fills the table with the rows of an accepted token.
+pub fn fast_fill(token: &[u8], table: &mut [u32]) -> Answer {
+    let rows = match judge(token) {
+        Ok(rows) => rows,
+        Err(refusal) => return refusal,
+    };
+    let number = if 4 * rows as usize > table.len() {
+        23
+    } else {
+        fill(token, table);
+        0
+    };
+    Answer {
+        number,
+        second: rows,
+    }
+}
+
+#[inline]
+fn two(bytes: &[u8], place: usize) -> usize {
+    usize::from(bytes[place]) << 8 | usize::from(bytes[place + 1])
+}
+
+/// Writes the rows of a token that was judged legal, and has room.
+fn fill(token: &[u8], table: &mut [u32]) {
+    let mut rows = table.chunks_exact_mut(4);
+    let mut count = 0;
+    let mut put = |kind: u32, place: usize, length: usize, owner: u32| {
+        if let Some(row) = rows.next() {
+            row.copy_from_slice(&[kind, place as u32, length as u32, owner]);
+        }
+    };
+    let mut place = 8;
+    while place + 4 <= token.len() {
+        let length = two(token, place + 2);
+        let kind = u32::from(token[place]) << 16;
+        let owner = count;
+        put(kind, place, length, owner);
+        count += 1;
+        let mut inner = match kind {
+            0x12_0000 => place + 20,
+            0x14_0000 => place + 10,
+            _ => place + length,
+        };
+        place += length;
+        while inner < place {
+            let length = two(token, inner + 2);
+            put(kind + u32::from(token[inner + 1]), inner, length, owner);
+            count += 1;
+            inner += length;
+        }
+    }
+}
+
+/// What has been met so far.
+struct Progress {
+    /// One bit for each section id.
+    met: u8,
+    rows: u32,
+    external: bool,
+}
+
+impl Progress {
+    /// 9 for a section other than 12 that was met before.
+    #[inline]
+    fn meet(&mut self, id: u8, place: usize) -> Judged<()> {
+        let bit = 1 << (id - 0x11);
+        if self.met & bit != 0 {
+            return refuse(9, place);
+        }
+        self.met |= bit;
+        Ok(())
+    }
+
+    #[inline]
+    fn end(&self, length: usize) -> Judged<u32> {
+        if self.met & (1 << 3) == 0 {
+            return refuse(20, length);
+        }
+        Ok(self.rows)
+    }
+}
+
+fn judge(token: &[u8]) -> Judged<u32> {
+    let Some(&[id, version, high, low, reserved @ ..]) = token.first_chunk::<8>() else {
+        return refuse(1, 0);
+    };
+    if id & 0xFE != 0x1E {
+        return refuse(2, 0);
+    }
+    if version != 0 {
+        return refuse(3, 0);
+    }
+    if token.len() > 3500 || token.len() != usize::from(high) << 8 | usize::from(low) {
+        return refuse(4, 0);
+    }
+    if reserved != [0; 4] {
+        return refuse(5, 0);
+    }
+    let mut progress = Progress {
+        met: 0,
+        rows: 0,
+        external: id == 0x1E,
+    };
+    let mut place = 8;
+    while place < token.len() {
+        let (id, length) = frame(token, place)?;
+        if id == 0x12 {
+            return judge_with_rules(token, place, progress);
+        }
+        other_section(&token[place..place + length], id, place, &mut progress)?;
+        place += length;
+    }
+    progress.end(token.len())
+}
+
+/// Goes on from the first rule; only from there on is the set of IDs needed.
+#[inline(never)]
+fn judge_with_rules(token: &[u8], first: usize, mut progress: Progress) -> Judged<u32> {
+    let mut rule_ids = RuleIds::new();
+    let mut place = first;
+    while place < token.len() {
+        let (id, length) = frame(token, place)?;
+        let section = &token[place..place + length];
+        if id == 0x12 {
+            rule(section, place, &mut rule_ids, &mut progress)?;
+        } else {
+            other_section(section, id, place, &mut progress)?;
+        }
+        place += length;
+    }
+    progress.end(token.len())
+}
+
+/// The id and length of the section that begins here.
+#[inline(always)]
+fn frame(token: &[u8], place: usize) -> Judged<(u8, usize)> {
+    const LEAST: [u8; 5] = [16, 20, 68, 10, 6];
+    let rest = &token[place..];
+    let Some(&[id, version, high, low]) = rest.first_chunk::<4>() else {
+        return refuse(6, place);
+    };
+    let Some(least) = LEAST.get(usize::from(id.wrapping_sub(0x11))) else {
+        return refuse(7, place);
+    };
+    if version != 0 {
+        return refuse(8, place);
+    }
+    let length = usize::from(high) << 8 | usize::from(low);
+    if length < usize::from(*least) || length > rest.len() {
+        return refuse(6, place);
+    }
+    Ok((id, length))
+}
+
+/// Any section but a rule.
+#[inline]
+fn other_section(section: &[u8], id: u8, place: usize, progress: &mut Progress) -> Judged<()> {
+    progress.meet(id, place)?;
+    progress.rows += 1;
+    match id {
+        0x11 => public_key(section, place),
+        0x13 if section.len() != 68 => refuse(15, place),
+        0x14 => information(section, place, progress),
+        0x15 if section.len() != 6 + two(section, 4) => refuse(15, place),
+        _ => Ok(()),
+    }
+}
+
+/// Tag and length of the subsection that begins here, whose kinds have these
+/// least lengths, its version tested too.
+#[inline]
+fn subsection_frame(
+    rest: &[u8],
+    place: usize,
+    least: &[u8],
+    met: &mut u8,
+) -> Judged<(usize, usize)> {
+    let Some(&[tag_high, tag_low, high, low]) = rest.first_chunk::<4>() else {
+        return refuse(12, place);
+    };
+    let tag = usize::from(tag_high) << 8 | usize::from(tag_low);
+    let Some(least) = least.get(tag.wrapping_sub(1)) else {
+        return refuse(13, place);
+    };
+    let length = usize::from(high) << 8 | usize::from(low);
+    if length < usize::from(*least) || length > rest.len() {
+        return refuse(12, place);
+    }
+    let bit = 1 << tag;
+    if *met & bit != 0 {
+        return refuse(14, place);
+    }
+    *met |= bit;
+    if rest[4] != 0 {
+        return refuse(8, place);
+    }
+    Ok((tag, length))
+}

@@ -1,0 +1,182 @@
+//! Sections 12 with their subsections.
+
+use super::signs::{is_label_template, is_rule_id};
+use super::{refuse, subsection_frame, Judged, Progress};
+
+/// Rule IDs met so far as big-endian numbers, by open addressing. No Rule ID
+/// is 0, so 0 marks a free slot; 3,500 bytes hold 174 rules at most.
+pub struct RuleIds {
+    slots: [u64; 512],
+}
+
+impl RuleIds {
+    #[inline]
+    pub fn new() -> RuleIds {
+        RuleIds { slots: [0; 512] }
+    }
+
+    /// Adds an ID; false if it was there.
+    #[inline]
+    fn add(&mut self, rule_id: u64) -> bool {
+        let mut slot = (rule_id.wrapping_mul(0x9E37_79B9_7F4A_7C15) >> 55) as usize;
+        loop {
+            match self.slots[slot] {
+                0 => {
+                    self.slots[slot] = rule_id;
+                    return true;
+                }
+                met if met == rule_id => return false,
+                _ => slot = (slot + 1) % 512,
+            }
+        }
+    }
+}
+
+/// Whether the byte is 8, 16 or 24.
+#[inline]
+fn is_key_length(length: u8) -> bool {
+    matches!(length, 8 | 16 | 24)
+}
+
+/// A rule, whose length is at least 20.
+#[inline]
+pub fn rule(
+    section: &[u8],
+    place: usize,
+    rule_ids: &mut RuleIds,
+    progress: &mut Progress,
+) -> Judged<()> {
+    let Some((fixed, subsections)) = section.split_first_chunk::<20>() else {
+        return refuse(6, place);
+    };
+    let [_, _, _, _, a, b, c, d, e, f, g, h, ..] = *fixed;
+    let [.., f0, f1, f2, flags, generated, check, symmetric, asymmetric] = *fixed;
+    let rule_id = [a, b, c, d, e, f, g, h];
+    if !is_rule_id(rule_id) {
+        return refuse(17, place);
+    }
+    let right = f0 | f1 | f2 == 0
+        && flags <= 1
+        && (flags == 1 || is_key_length(generated))
+        && check <= 2
+        && symmetric == flags
+        && asymmetric <= 2;
+    if !right {
+        return refuse(11, place);
+    }
+    if !rule_ids.add(u64::from_be_bytes(rule_id)) {
+        return refuse(9, place);
+    }
+    progress.rows += 1;
+    if subsections.is_empty() && flags == 0 {
+        return Ok(());
+    }
+    rule_subsections(subsections, place, flags == 1, progress)
+}
+
+/// The subsections of the rule at `rule_place`, its own tests after them.
+fn rule_subsections(
+    subsections: &[u8],
+    rule_place: usize,
+    export: bool,
+    progress: &mut Progress,
+) -> Judged<()> {
+    const LEAST: [u8; 5] = [8, 14, 12, 14, 10];
+    let (mut minimum, mut mask, mut mask_place) = (0, 0, 0);
+    let (mut met, mut rest, mut place) = (0u8, subsections, rule_place + 20);
+    while !rest.is_empty() {
+        let (tag, length) = subsection_frame(rest, place, &LEAST, &mut met)?;
+        let (subsection, after) = rest.split_at(length);
+        match tag {
+            1 => transport_variant(subsection, place)?,
+            3 => minimum = export_parameters(subsection, place)?,
+            5 => {
+                mask = token_parameters(subsection, place)?;
+                mask_place = place;
+            }
+            _ => rule_reference(subsection, place)?,
+        }
+        progress.rows += 1;
+        rest = after;
+        place += length;
+    }
+    // Without a 0003 the minimum is 0, without a 0005 the mask is.
+    if mask != 0 && mask < minimum {
+        return refuse(18, mask_place);
+    }
+    if export && minimum == 0 {
+        return refuse(20, rule_place);
+    }
+    Ok(())
+}
+
+fn transport_variant(subsection: &[u8], place: usize) -> Judged<()> {
+    if subsection.len() != 8 + usize::from(subsection[7]) {
+        return refuse(12, place);
+    }
+    if subsection[5] | subsection[6] != 0 {
+        return refuse(10, place);
+    }
+    Ok(())
+}
+
+fn rule_reference(subsection: &[u8], place: usize) -> Judged<()> {
+    let Ok([_, _, _, _, _, reserved, rule_id @ ..]) = <[u8; 14]>::try_from(subsection) else {
+        return refuse(12, place);
+    };
+    if reserved != 0 {
+        return refuse(10, place);
+    }
+    if !is_rule_id(rule_id) {
+        return refuse(17, place);
+    }
+    Ok(())
+}
+
+/// Gives the minimum.
+fn export_parameters(subsection: &[u8], place: usize) -> Judged<u8> {
+    let variant = usize::from(subsection[10]);
+    let cv = match subsection.get(11 + variant) {
+        Some(cv) if subsection.len() == 12 + variant + usize::from(*cv) => *cv,
+        _ => return refuse(12, place),
+    };
+    if subsection[5] | subsection[6] != 0 {
+        return refuse(10, place);
+    }
+    if subsection[7] != 0 {
+        return refuse(11, place);
+    }
+    let (minimum, maximum) = (subsection[8], subsection[9]);
+    let right = is_key_length(minimum)
+        && is_key_length(maximum)
+        && minimum <= maximum
+        && (variant == 0 || variant >= usize::from(maximum))
+        && matches!(cv, 0 | 8 | 16);
+    if !right {
+        return refuse(18, place);
+    }
+    Ok(minimum)
+}
+
+/// Gives the mask's length.
+fn token_parameters(subsection: &[u8], place: usize) -> Judged<u8> {
+    let mask = subsection[8];
+    let masks = 2 * usize::from(mask);
+    let label = match subsection.get(9 + masks) {
+        Some(label) if subsection.len() == 10 + masks + usize::from(*label) => *label,
+        _ => return refuse(12, place),
+    };
+    if subsection[5] | subsection[6] != 0 {
+        return refuse(10, place);
+    }
+    if subsection[7] != 0 {
+        return refuse(11, place);
+    }
+    if !matches!(mask, 0 | 8 | 16) || !matches!(label, 0 | 64) {
+        return refuse(18, place);
+    }
+    if label == 64 && !is_label_template(&subsection[10 + masks..]) {
+        return refuse(17, place);
+    }
+    Ok(mask)
+}

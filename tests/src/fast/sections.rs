@@ -1,0 +1,115 @@
+//! The public key, and section 14 with its subsections.
+
+use super::{refuse, subsection_frame, two, Judged, Progress};
+
+pub fn public_key(section: &[u8], place: usize) -> Judged<()> {
+    let (x, bits, y) = (two(section, 6), two(section, 8), two(section, 10));
+    if section.len() != 16 + x + y {
+        return refuse(15, place);
+    }
+    if section[4] | section[5] != 0 {
+        return refuse(10, place);
+    }
+    let sizes_right =
+        x.wrapping_sub(1) < 512 && (512..=4096).contains(&bits) && y == bits.div_ceil(8);
+    if !sizes_right {
+        return refuse(16, place);
+    }
+    let (exponent, rest) = section[12..].split_at(x);
+    let (modulus, flags) = rest.split_at(y);
+    let unused = (8 * y - bits) as u32;
+    let odd = modulus[y - 1] & exponent[x - 1] & 1 == 1;
+    if modulus[0].leading_zeros() != unused || !odd || !is_below(exponent, modulus) {
+        return refuse(16, place);
+    }
+    if !matches!(flags, [0 | 0x80 | 0xC0, 0, 0, 0]) {
+        return refuse(11, place);
+    }
+    Ok(())
+}
+
+/// Whether the exponent is less than a modulus whose first byte is not 0.
+fn is_below(exponent: &[u8], modulus: &[u8]) -> bool {
+    match exponent.len().checked_sub(modulus.len()) {
+        None => true,
+        Some(more) => {
+            let (leading, low) = exponent.split_at(more);
+            leading.iter().all(|byte| *byte == 0) && low < modulus
+        }
+    }
+}
+
+#[inline]
+pub fn information(section: &[u8], section_place: usize, progress: &mut Progress) -> Judged<()> {
+    const LEAST: [u8; 2] = [62, 16];
+    let (fixed, mut rest) = section.split_at(10);
+    if fixed[4] | fixed[5] != 0 {
+        return refuse(10, section_place);
+    }
+    if fixed[6] | fixed[7] | fixed[8] != 0 || fixed[9] > 1 {
+        return refuse(11, section_place);
+    }
+    let (mut met, mut place) = (0u8, section_place + 10);
+    while !rest.is_empty() {
+        let (tag, length) = subsection_frame(rest, place, &LEAST, &mut met)?;
+        let (subsection, after) = rest.split_at(length);
+        match tag {
+            1 => protection(subsection, place, progress.external)?,
+            _ => dates(subsection, place)?,
+        }
+        progress.rows += 1;
+        rest = after;
+        place += length;
+    }
+    if met & (1 << 1) == 0 {
+        return refuse(20, section_place);
+    }
+    Ok(())
+}
+
+#[inline]
+fn protection(subsection: &[u8], place: usize, external: bool) -> Judged<()> {
+    let Some((mkvp, [])) = subsection[46..].split_first_chunk::<16>() else {
+        return refuse(12, place);
+    };
+    if subsection[5] != 0 {
+        return refuse(10, place);
+    }
+    if external && u128::from_ne_bytes(*mkvp) != 0 {
+        return refuse(21, place);
+    }
+    Ok(())
+}
+
+fn dates(subsection: &[u8], place: usize) -> Judged<()> {
+    let Ok([_, _, _, _, _, reserved, f0, f1, a, b, c, d, e, f, g, h]) =
+        <[u8; 16]>::try_from(subsection)
+    else {
+        return refuse(12, place);
+    };
+    if reserved != 0 {
+        return refuse(10, place);
+    }
+    if f0 != 0 || f1 > 1 {
+        return refuse(11, place);
+    }
+    let activation = u32::from_be_bytes([a, b, c, d]);
+    let expiration = u32::from_be_bytes([e, f, g, h]);
+    if !is_date(activation) || !is_date(expiration) || activation > expiration {
+        return refuse(19, place);
+    }
+    Ok(())
+}
+
+fn is_date(date: u32) -> bool {
+    const DAYS: [u8; 12] = [31, 28, 31, 30, 31, 30, 31, 31, 30, 31, 30, 31];
+    let (year, month, day) = (date >> 16, (date >> 8) as u8, date as u8);
+    let leap = year % 4 == 0 && (year % 100 != 0 || year % 400 == 0);
+    match DAYS.get(usize::from(month.wrapping_sub(1))) {
+        Some(days) => {
+            let days = days + u8::from(leap && month == 2);
+            year <= 9999 && day.wrapping_sub(1) < days
+        }
+        None => false,
+    }
+}

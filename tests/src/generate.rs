@@ -1,0 +1,18 @@
+//! Generated tokens and calls. The same seed gives the same ones.
+
+/// Sequences of writer calls.
+pub mod calls;
+/// Tokens cut into fields, to be changed and put together again.
+pub mod cut;
+/// Damaged tokens, with one fault or several.
+pub mod damage;
+/// Single faults in what the fields hold, each with the answer it gives.
+pub mod faults;
+/// Single faults in the public key, the rules and the dates.
+pub mod field_faults;
+/// Legal tokens.
+pub mod legal;
+/// Single faults in lengths and in which parts are there.
+pub mod part_faults;
+/// Legal values of single fields.
+pub mod values;

@@ -1,0 +1,25 @@
+//! A second, separate reader and writer of trusted blocks, written from
+//! document 01 alone, for comparison with the proved ones.
+
+/// What each kind of section and subsection must hold.
+pub mod checks;
+/// An optimised reader with the same answers as [`reader`].
+pub mod fast;
+/// Forms of Rule IDs, label templates, dates and public keys.
+pub mod forms;
+/// Generated tokens, legal and damaged, and sequences of writer calls.
+pub mod generate;
+/// Numbers of the kinds, and their least lengths.
+pub mod kinds;
+/// The listing of a token.
+pub mod listing;
+/// Parts with their fields, and the written form of a choice of parts.
+pub mod parts;
+/// A small generator of repeatable random numbers.
+pub mod random;
+/// The reading of tokens and drafts, and the table.
+pub mod reader;
+/// Views of fields, and the walk from row to row.
+pub mod views;
+/// The writer on a lent draft.
+pub mod writer;
