@@ -7,3 +7,4 @@ pub mod Runs
 pub mod Slots
 pub mod Tests
 pub mod PartForm
+pub mod Grouping
