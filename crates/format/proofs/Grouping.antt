@@ -47,7 +47,7 @@ Subs ps = All (λ (p : Part). isSubsection (p .kind) ≡ true) ps
 
 -- A section's bytes end the subsections before it.
 subs-end : (ps : List Part) (q : Part) (qs : List Part) → isSubsection (q .kind) ≡ false
-  → subsectionsLength (ps ++ q ∷ qs) ≡ subsectionsLength ps
+    → subsectionsLength (ps ++ q ∷ qs) ≡ subsectionsLength ps
 subs-end [] q qs e = is-false (isSubsection (q .kind)) _ 0 e
 subs-end (p ∷ ps) q qs e =
     ap (λ (n : ℕ). elim (isSubsection (p .kind)) as (λ b. ℕ) [ true ↦ size p + n | false ↦ 0 ]) (subs-end ps q qs e)
@@ -58,7 +58,7 @@ span-end p ps q qs e =
 
 -- A section behind other parts changes none of their bytes.
 pub parts-then-section : (ps : List Part) (q : Part) (qs : List Part) → isSubsection (q .kind) ≡ false
-  → writeParts (ps ++ q ∷ qs) ≡ writeParts ps ++ writeParts (q ∷ qs)
+    → writeParts (ps ++ q ∷ qs) ≡ writeParts ps ++ writeParts (q ∷ qs)
 parts-then-section [] q qs e = refl
 parts-then-section (p ∷ ps) q qs e =
     ap₂ (λ (n : ℕ) (bs : List ℕ). write n (layout (p .kind)) (p .fields) ++ bs) (span-end p ps q qs e) (parts-then-section ps q qs e)
@@ -78,7 +78,7 @@ pub subs-then-parts : (us ps : List Part) → Subs us → writeParts (us ++ ps) 
 subs-then-parts [] ps h = refl
 subs-then-parts (u ∷ us) ps h =
     ap₂ (λ (n : ℕ) (bs : List ℕ). write n (layout (u .kind)) (u .fields) ++ bs)
-      (span-sub u (us ++ ps) (h .0) ∙ sym (span-sub u us (h .0))) (subs-then-parts us ps (h .1))
+    (span-sub u (us ++ ps) (h .0) ∙ sym (span-sub u us (h .0))) (subs-then-parts us ps (h .1))
     ∙ sym (append-assoc (write (span u us) (layout (u .kind)) (u .fields)) (writeParts us) (writeParts ps))
 
 -- Subsections are as long as their bytes.
@@ -122,8 +122,8 @@ group-flat [] h = refl
 group-flat (s ∷ ss) h =
     is-false (isSubsection (s .head .kind)) (sectionsOf (s .subs ++ partsOf ss)) _ (h .0 .0)
     ∙ ap₂ {C = List Section} (λ (us : List Part) (r : List Section). record { head = s .head; subs = us } ∷ r)
-      (front-subs (s .subs) (partsOf ss) (h .0 .1) (opens ss (h .1)))
-      (skip-subs (s .subs) (partsOf ss) (h .0 .1) ∙ group-flat ss (h .1))
+    (front-subs (s .subs) (partsOf ss) (h .0 .1) (opens ss (h .1)))
+    (skip-subs (s .subs) (partsOf ss) (h .0 .1) ∙ group-flat ss (h .1))
 
 -- One section more, laid flat.
 pub parts-last : (ss : List Section) (s : Section) → partsOf (ss ++ s ∷ []) ≡ partsOf ss ++ s .head ∷ s .subs

@@ -8,3 +8,4 @@ pub mod Slots
 pub mod Tests
 pub mod PartForm
 pub mod Grouping
+pub mod Sound

@@ -28,7 +28,7 @@ plain (counted s ∷ l) = plain l
 
 -- The tests of what is always 0 say that the slots hold what they must.
 pub zeros-laid : (l : List Item) (t : ℕ) (ns r : List ℕ) (o j : ℕ) → plain l ≡ true → Hold (zeroChecks j r (slots ns l r o))
-  → Laid t r (slots ns l r o)
+    → Laid t r (slots ns l r o)
 zeros-laid [] t ns r o j p h = tt
 zeros-laid (code w v ∷ l) t ns r o j p h = absurd (let z : _≡_ {A = ℕ} 0 1 = cc in omega arith)
 zeros-laid (zeros n q ∷ l) t ns r o j p h = (h .0, zeros-laid l t ns r (o + n) (suc j) p (h .1))
@@ -65,17 +65,17 @@ abbrev frameLong : Bool → ℕ
 frameLong b = elim b as (λ x. ℕ) [ false ↦ 4 | true ↦ 5 ]
 
 frame-laid : (b : Bool) (i g t : ℕ) (l : List Item) (r : List ℕ) → Framed b i g t r → Laid t r (slots [] l r (frameLong b))
-  → Laid t r (slots [] (frame b i g ++ l) r 0)
+    → Laid t r (slots [] (frame b i g ++ l) r 0)
 frame-laid false i g t l r f d = (f .0, (f .1, (f .2, d)))
 frame-laid true i g t l r f d = (f .0, (f .2, (f .1, d)))
 
 laid-frame : (b : Bool) (i g t : ℕ) (l : List Item) (r : List ℕ) → Laid t r (slots [] (frame b i g ++ l) r 0)
-  → Framed b i g t r × Laid t r (slots [] l r (frameLong b))
+    → Framed b i g t r × Laid t r (slots [] l r (frameLong b))
 laid-frame false i g t l r d = ((d .0, d .1 .0, d .1 .1 .0), d .1 .1 .1)
 laid-frame true i g t l r d = ((d .0, d .1 .1 .0, d .1 .0), d .1 .1 .1)
 
 frame-fields : (b : Bool) (i g : ℕ) (l : List Item) (r : List ℕ)
-  → (fieldsIn r (slots [] (frame b i g ++ l) r 0) ≡ fieldsIn r (slots [] l r (frameLong b)))
+    → (fieldsIn r (slots [] (frame b i g ++ l) r 0) ≡ fieldsIn r (slots [] l r (frameLong b)))
     × (endOf 0 (slots [] (frame b i g ++ l) r 0) ≡ endOf (frameLong b) (slots [] l r (frameLong b)))
 frame-fields false i g l r = (refl, refl)
 frame-fields true i g l r = (refl, refl)
@@ -84,8 +84,8 @@ frame-fields true i g l r = (refl, refl)
 
 -- Bytes that pass the tests of a part of t bytes are its written form, and what follows; the fields fit.
 pub part-written : (k : Kind) (t : ℕ) (r : List ℕ) → Bytes r → Framed (isSubsection k) (sectionId k) (tag k) t r
-  → Hold (zeroChecks 3 r (bodySlots k r)) → madeLength k r ≤ length r
-  → Fits t [] (layout k) (partIn k r .fields)
+    → Hold (zeroChecks 3 r (bodySlots k r)) → madeLength k r ≤ length r
+    → Fits t [] (layout k) (partIn k r .fields)
     × (write t (layout k) (partIn k r .fields) ++ drop (madeLength k r) r ≡ r)
 part-written k t r b f h e =
     let g = frame-fields (isSubsection k) (sectionId k) (tag k) (body k) r in
@@ -99,8 +99,8 @@ part-written k t r b f h e =
 
 -- What is written as a part of t bytes reads back: its frame, its fields, its length.
 pub part-read : (p : Part) (t : ℕ) (r z : List ℕ) → Fits t [] (layout (p .kind)) (p .fields)
-  → r ≡ write t (layout (p .kind)) (p .fields) ++ z
-  → Framed (isSubsection (p .kind)) (sectionId (p .kind)) (tag (p .kind)) t r
+    → r ≡ write t (layout (p .kind)) (p .fields) ++ z
+    → Framed (isSubsection (p .kind)) (sectionId (p .kind)) (tag (p .kind)) t r
     × Hold (zeroChecks 3 r (bodySlots (p .kind) r))
     × (partIn (p .kind) r ≡ p)
     × (madeLength (p .kind) r ≡ size p)
@@ -109,8 +109,9 @@ part-read p t r z f e =
     let g = frame-fields (isSubsection k) (sectionId k) (tag k) (body k) r in
     let i = written-laid (layout k) t [] (p .fields) r 0 z f e in
     let l = laid-frame (isSubsection k) (sectionId k) (tag k) t (body k) r (i .0) in
-    let n : 0 + length (write t (layout k) (p .fields)) ≡ length (write t (layout k) (p .fields)) = omega arith in
-    (l .0,
-    laid-zeros (body k) t [] r (frameLength k) 3 (l .1),
-    ap {B = Part} (λ (fs : Fields). record { kind = k; fields = fs }) (sym (g .0) ∙ i .1),
-    sym (g .1) ∙ i .2 ∙ n ∙ size-any (layout k) t 0 (p .fields))
+    let n : 0 + length (write t (layout k) (p .fields)) ≡ length (write t (layout k) (p .fields)) = omega arith in (
+      l .0,
+      laid-zeros (body k) t [] r (frameLength k) 3 (l .1),
+      ap {B = Part} (λ (fs : Fields). record { kind = k; fields = fs }) (sym (g .0) ∙ i .1),
+      sym (g .1) ∙ i .2 ∙ n ∙ size-any (layout k) t 0 (p .fields),
+    )

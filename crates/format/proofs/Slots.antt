@@ -114,7 +114,7 @@ earlier ns j n h = List·getD-append ns (n ∷ []) 0 j h
 
 -- The field that a count points to is as long as the count says.
 pointed : (l : List Item) (ns bs : List ℕ) (o k c : ℕ) → points l k c ≡ true → c < length ns
-  → endOf o (slots ns l bs o) ≤ length bs → length (getD (fieldsIn bs (slots ns l bs o)) k []) ≡ getD ns c 0
+    → endOf o (slots ns l bs o) ≤ length bs → length (getD (fieldsIn bs (slots ns l bs o)) k []) ≡ getD ns c 0
 pointed [] ns bs o k c p h e = absurd (let z : _≡_ {A = ℕ} 0 1 = cc in omega arith)
 pointed (code w v ∷ l) ns bs o k c p h e = pointed l ns bs (o + w) k c p h e
 pointed (zeros n q ∷ l) ns bs o k c p h e = pointed l ns bs (o + n) k c p h e
@@ -137,8 +137,8 @@ joined bs o n a x z p q = append-assoc a x z ∙ ap₂ (λ u v. u ++ v) p q ∙ 
 
 -- Bytes that are laid out by l from o on are the written form of the fields in their slots, and these fit.
 pub laid-written : (l : List Item) (t : ℕ) (ns bs : List ℕ) (o : ℕ) → sound (length ns) l ≡ true → Bytes bs
-  → endOf o (slots ns l bs o) ≤ length bs → Laid t bs (slots ns l bs o)
-  → Fits t ns l (fieldsIn bs (slots ns l bs o))
+    → endOf o (slots ns l bs o) ≤ length bs → Laid t bs (slots ns l bs o)
+    → Fits t ns l (fieldsIn bs (slots ns l bs o))
     × (write t l (fieldsIn bs (slots ns l bs o)) ++ drop (endOf o (slots ns l bs o)) bs ≡ drop o bs)
 laid-written [] t ns bs o q b e d = (tt, refl)
 laid-written (code w v ∷ l) t ns bs o q b e d =
@@ -166,9 +166,10 @@ laid-written (count w k ∷ l) t ns bs o q b e d =
     let p = and-split (points l k (length ns)) (sound (suc (length ns)) l) q in
     let i = laid-written l t ms bs (o + w) (subst (λ (x : ℕ). sound x l ≡ true) (sym c) (p .1)) b e (d .1) in
     let m : n ≡ length (getD fs k []) =
-        sym (pointed l ms bs (o + w) k (length ns) (p .0) (omega arith) e ∙ getD-append-seam ns n [] 0) in
-    ((subst (λ (x : ℕ). x < 256 ^ w) m (told-lt bs o w b h), subst (λ (x : ℕ). Fits t (ns ++ (x ∷ [])) l fs) m (i .0)),
-    joined bs o w _ _ _ (subst (λ (x : ℕ). bigEndian w x ≡ bytesAt bs o w) m (told-at bs o w b h)) (i .1))
+    sym (pointed l ms bs (o + w) k (length ns) (p .0) (omega arith) e ∙ getD-append-seam ns n [] 0) in (
+      (subst (λ (x : ℕ). x < 256 ^ w) m (told-lt bs o w b h), subst (λ (x : ℕ). Fits t (ns ++ (x ∷ [])) l fs) m (i .0)),
+      joined bs o w _ _ _ (subst (λ (x : ℕ). bigEndian w x ≡ bytesAt bs o w) m (told-at bs o w b h)) (i .1),
+    )
 laid-written (fixed n ∷ l) t ns bs o q b e d =
     let g = end-le l ns bs (o + n) in
     let h : o + n ≤ length bs = omega arith in
@@ -197,7 +198,7 @@ behind o n e a x h q = simp length-append (omega arith)
 
 -- Fields that fit, written from o on, lie in their slots.
 pub written-laid : (l : List Item) (t : ℕ) (ns : List ℕ) (fs : Fields) (bs : List ℕ) (o : ℕ) (z : List ℕ)
-  → Fits t ns l fs → drop o bs ≡ write t l fs ++ z → Reads t ns l fs bs o
+    → Fits t ns l fs → drop o bs ≡ write t l fs ++ z → Reads t ns l fs bs o
 written-laid [] t ns [] bs o z h e = (tt, refl, omega arith)
 written-laid [] t ns (f ∷ fs) bs o z h e = absurd h
 written-laid (code w v ∷ l) t ns fs bs o z h e =
@@ -226,7 +227,7 @@ written-laid (count w k ∷ l) t ns fs bs o z h e =
     let v : number (bytesAt bs o w) ≡ c = ap number (f .0) ∙ number-bigEndian w c (h .0) in
     let j = written-laid l t (ns ++ (c ∷ [])) fs bs (o + w) z (h .1) (f .1) in
     let i : Reads t (ns ++ (number (bytesAt bs o w) ∷ [])) l fs bs (o + w) =
-        subst (λ (y : ℕ). Reads t (ns ++ (y ∷ [])) l fs bs (o + w)) (sym v) j in
+    subst (λ (y : ℕ). Reads t (ns ++ (y ∷ [])) l fs bs (o + w)) (sym v) j in
     ((tt, i .0), i .1, behind o w _ (bigEndian w c) x n (i .2))
 written-laid (fixed n ∷ l) t ns [] bs o z h e = absurd h
 written-laid (fixed n ∷ l) t ns (g ∷ fs) bs o z h e =

@@ -29,7 +29,7 @@ need-passed b f rest e = rw e
 
 -- Where something is found behind an outcome, that found something too.
 pub followed : {A B : Type 0} (o : Outcome A) (next : A → Outcome B) (b : B) → andThen o next ≡ found b
-  → (a : A) × (o ≡ found a) × (next a ≡ found b)
+    → (a : A) × (o ≡ found a) × (next a ≡ found b)
 unfolding andThen
 followed (refused f) next b e = absurd (refused-not e)
 followed (found a) next b e = (a, refl, e)
@@ -45,7 +45,7 @@ Hold cs = All (λ (c : Check). c .holds ≡ true) cs
 
 -- Where something is found behind a list of tests, all have passed.
 pub tests-passed : {A : Type 0} (at : ℕ) (cs : List Check) (rest : Outcome A) (a : A) → tested at cs rest ≡ found a
-  → Hold cs × (rest ≡ found a)
+    → Hold cs × (rest ≡ found a)
 unfolding tested
 tests-passed at [] rest a e = (tt, e)
 tests-passed at (c ∷ cs) rest a e =
