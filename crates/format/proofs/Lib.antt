@@ -9,3 +9,4 @@ pub mod Tests
 pub mod PartForm
 pub mod Grouping
 pub mod Sound
+pub mod Complete

@@ -197,7 +197,7 @@ subs-read (suc d) x o before at (suc m) r us h b g e =
 -- ---- sections
 
 -- Two lists of bytes are compared in either order.
-same-sym : (a b : List ℕ) → sameBytes a b ≡ sameBytes b a
+pub same-sym : (a b : List ℕ) → sameBytes a b ≡ sameBytes b a
 unfolding sameBytes
 same-sym [] [] = refl
 same-sym [] (y ∷ b) = refl
@@ -355,18 +355,18 @@ section-known full x k before at r s q h b e =
     })
 
 section-read : (full x : Bool) (before : List Section) (at : ℕ) (r : List ℕ) (s : Section) → Bytes r
-  → section full x before at r ≡ found s → SectionRead full x before r s
+    → section full x before at r ≡ found s → SectionRead full x before r s
 unfolding section
 section-read full x before at r s b e =
     let n = needed (leb 4 (length r)) _ _ s e in
     go (leb-true 4 (length r) (n .0)) (sectionKind (idOf r)) refl (n .1)
   where
     go : 4 ≤ length r → (m : Option Kind) → sectionKind (idOf r) ≡ m
-      → elim m as (λ k. Outcome Section) [
-          none ↦ refused (fault 7 at 0)
-        | some k ↦ tested at (sectionChecks x k (kindBefore k before) (ruleBefore (partIn k r) before) r) (sectionRest full x k at r)
+        → elim m as (λ k. Outcome Section) [
+          | none ↦ refused (fault 7 at 0)
+          | some k ↦ tested at (sectionChecks x k (kindBefore k before) (ruleBefore (partIn k r) before) r) (sectionRest full x k at r)
         ] ≡ found s
-      → SectionRead full x before r s
+        → SectionRead full x before r s
     go h none q w = absurd (refused-not w)
     go h (some k) q w = section-known full x k before at r s q h b w
 
@@ -377,15 +377,15 @@ pub record GoodSections (full x : Bool) (ss : List Section) : Type 0 where
 
 -- One section more.
 more : (full x : Bool) (before : List Section) (r : List ℕ) (s : Section) → GoodSections full x before
-  → SectionRead full x before r s → GoodSections full x (before ++ s ∷ [])
+    → SectionRead full x before r s → GoodSections full x (before ++ s ∷ [])
 more full x before r s g w = record {
   each = all-join (GoodSection full x) before (s ∷ []) (g .each) (w .good, tt);
-  pairs = pairwise-last mayBothStand before s (g .pairs) (w .new)
+  pairs = pairwise-last mayBothStand before s (g .pairs) (w .new);
 }
 
 -- Its bytes stand behind those of the earlier ones.
 section-more : (full x : Bool) (before : List Section) (r : List ℕ) (s : Section) → SectionRead full x before r s
-  → writeParts (partsOf (before ++ s ∷ [])) ++ drop (stated r) r ≡ writeParts (partsOf before) ++ r
+    → writeParts (partsOf (before ++ s ∷ [])) ++ drop (stated r) r ≡ writeParts (partsOf before) ++ r
 section-more full x before r s w =
     ap (λ (y : List Part). writeParts y ++ drop (stated r) r) (parts-last before s)
     ∙ ap (λ (y : List ℕ). y ++ drop (stated r) r) (parts-then-section (partsOf before) (s .head) (s .subs) (w .good .head))
@@ -394,21 +394,22 @@ section-more full x before r s w =
 
 -- The sections that a reading finds keep their rules, and behind the earlier ones they are the bytes read.
 pub sections-read : (d : ℕ) (full x : Bool) (before : List Section) (at : ℕ) (r : List ℕ) (ss : List Section) → Bytes r
-  → GoodSections full x before → sections d full x before at r ≡ found ss
-  → GoodSections full x ss × (writeParts (partsOf ss) ≡ writeParts (partsOf before) ++ r)
+    → GoodSections full x before → sections d full x before at r ≡ found ss
+    → GoodSections full x ss × (writeParts (partsOf ss) ≡ writeParts (partsOf before) ++ r)
     × ((not full || kindBefore information ss) ≡ true)
 unfolding sections
 sections-read zero full x before at r ss b g e = absurd (refused-not e)
 sections-read (suc d) full x before at [] ss b g e =
     let n = needed (not full || kindBefore information before) _ _ ss e in
-    let q : before ≡ ss = found-inj (n .1) in
-    (subst (GoodSections full x) q g,
-    ap (λ (y : List Section). writeParts (partsOf y)) (sym q) ∙ sym (append-nil (writeParts (partsOf before))),
-    rw q at (n .0))
+    let q : before ≡ ss = found-inj (n .1) in (
+      subst (GoodSections full x) q g,
+      ap (λ (y : List Section). writeParts (partsOf y)) (sym q) ∙ sym (append-nil (writeParts (partsOf before))),
+      rw q at (n .0),
+    )
 sections-read (suc d) full x before at (c ∷ cs) ss b g e =
     let r : List ℕ = c ∷ cs in
     let f = followed (section full x before at r) _ ss e in
     let w = section-read full x before at r (f .0) b (f .1) in
     let i = sections-read d full x (before ++ f .0 ∷ []) (at + stated r) (drop (stated r) r) ss (bytes-drop (stated r) r b)
-        (more full x before r (f .0) g w) (f .2) in
+    (more full x before r (f .0) g w) (f .2) in
     (i .0, i .1 ∙ section-more full x before r (f .0) w, i .2)
