@@ -29,7 +29,7 @@ use Rattle.format.proofs.Sound.{GoodPart, GoodSub, GoodSection, kinds-d
 -- ---- small laws
 
 -- What is written is at least as long as the plain number.
-least-le : (l : List Item) (t : ℕ) (ns : List ℕ) (fs : Fields) → Fits t ns l fs → least l ≤ length (write t l fs)
+pub least-le : (l : List Item) (t : ℕ) (ns : List ℕ) (fs : Fields) → Fits t ns l fs → least l ≤ length (write t l fs)
 least-le [] t ns fs f = omega arith
 least-le (code w v ∷ l) t ns fs f =
     let i = least-le l t ns fs (f .1) in simp (length-append, bigEndian-length) (omega arith)

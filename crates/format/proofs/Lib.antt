@@ -10,3 +10,6 @@ pub mod PartForm
 pub mod Grouping
 pub mod Sound
 pub mod Complete
+pub mod Header
+pub mod Flat
+pub mod Accepted
