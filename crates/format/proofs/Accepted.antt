@@ -22,6 +22,7 @@ use Rattle.format.proofs.Grouping.{all-map, stateable, group-flat}
 use Rattle.format.proofs.Sound.{GoodPart, GoodSection, GoodSections, sections-read}
 use Rattle.format.proofs.Complete.{sections-found}
 use Rattle.format.proofs.Header.{header-written, header-read, behind-header, written-front}
+use Rattle.format.proofs.Sizes.{has-protection, required-long}
 use Rattle.format.proofs.Flat.{flat-good, grouped, flat-joins, flat-has, choice-flat, choice-good, has-section}
 
 -- ---- what is read is written so
@@ -65,7 +66,7 @@ reading-sound full bs ss b e =
     let a = allowed full bs h (c .1 .1 .1 .0) in
     let w = header-written bs b h (c .1 .1 .0) (c .1 .1 .1 .1 .0) in
     let r = sections-read (suc n) full (external (idOf bs)) [] 8 (drop 8 (take n bs)) ss (bytes-drop 8 (take n bs) (bytes-take n bs b))
-        (record { each = tt; pairs = tt }) (t .1) in
+    (record { each = tt; pairs = tt }) (t .1) in
     record {
       eight = a .eight;
       ends = a .ends;
@@ -74,28 +75,132 @@ reading-sound full bs ss b e =
       byte = w .1;
       form = written-front (idOf bs) (partsOf ss) bs n (a .eight) (a .ends) (w .0) (r .1);
       good = r .0;
-      informed = r .2
+      informed = r .2;
     }
+
+-- A token's header states the length of its buffer.
+pub whole-token : (bs : List ℕ) (ss : List Section) → reading true bs ≡ found ss → stated bs ≡ length bs
+unfolding reading
+whole-token bs ss e =
+    let c = tests-passed 0 (headerChecks true bs) _ ss e .0 in
+    eqb-true (stated bs) (length bs) (and-split (leb (length bs) 3500) (eqb (stated bs) (length bs)) (c .1 .1 .1 .0) .1)
 
 -- ---- what is written so is read
 
 -- Bytes that begin with the written form of a good choice, and whose length is allowed, are read as that choice.
 pub reading-complete : (full : Bool) (i : ℕ) (ps : List Part) (bs z : List ℕ) → bs ≡ written i ps ++ z → knownId i ≡ true
-  → lengthAllowed full bs ≡ true → length (written i ps) < 256 ^ 2 → GoodSections full (external i) (sectionsOf ps)
-  → partsOf (sectionsOf ps) ≡ ps → (not full || kindBefore information (sectionsOf ps)) ≡ true → reading full bs ≡ found (sectionsOf ps)
+    → lengthAllowed full bs ≡ true → length (written i ps) < 256 ^ 2 → GoodSections full (external i) (sectionsOf ps)
+    → partsOf (sectionsOf ps) ≡ ps → (not full || kindBefore information (sectionsOf ps)) ≡ true → reading full bs ≡ found (sectionsOf ps)
 unfolding reading
 reading-complete full i ps bs z e k a small g flat info =
     let r = header-read i ps bs z small e in
     let lw = written-length i ps in
     let lb : length bs ≡ length (written i ps) + length z = ap length e ∙ length-append (written i ps) z in
     let front : take (stated bs) bs ≡ written i ps =
-        ap₂ (λ (n : ℕ) (y : List ℕ). take n y) (r .2) e ∙ take-at (written i ps) z (length (written i ps)) refl in
+    ap₂ (λ (n : ℕ) (y : List ℕ). take n y) (r .2) e ∙ take-at (written i ps) z (length (written i ps)) refl in
     let body : drop 8 (take (stated bs) bs) ≡ writeParts (partsOf (sectionsOf ps)) =
-        ap (drop 8) front ∙ behind-header i ps ∙ ap writeParts (sym flat) in
+    ap (drop 8) front ∙ behind-header i ps ∙ ap writeParts (sym flat) in
     let lf : length (writeParts (partsOf (sectionsOf ps))) ≡ length (writeParts ps) = ap (λ (y : List Part). length (writeParts y)) flat in
     let st = r .2 in
     let hold : Hold (headerChecks full bs) =
-        (le-leb 8 (length bs) (omega arith), (ap knownId (r .0) ∙ k, (r .1, (a, (r .3, tt))))) in
+    (le-leb 8 (length bs) (omega arith), (ap knownId (r .0) ∙ k, (r .1, (a, (r .3, tt))))) in
     tests-lead 0 (headerChecks full bs) _ hold
     ∙ ap₂ (λ (x : Bool) (y : List ℕ). sections (suc (stated bs)) full x [] 8 y) (ap external (r .0)) body
     ∙ sections-found (suc (stated bs)) full (external i) [] 8 (sectionsOf ps) (omega arith) (omega arith) (g .each) (g .pairs) info
+
+-- ---- the rules of the sections and those of the flat choice
+
+-- Good sections laid flat are a choice that keeps the rules.
+pub good-choice : (full : Bool) (i : ℕ) (ss : List Section) → i < 256 → GoodSections full (external i) ss → Choice i (partsOf ss)
+good-choice full i ss h g =
+    let f = flat-good full (external i) ss (g .each) in
+    record {
+      identifier = h;
+      bytes = all-map (GoodPart (external i)) (λ (p : Part). All Bytes (p .fields)) (λ p q. q .bytes) (partsOf ss) f;
+      fit = all-map (GoodPart (external i)) (λ (p : Part). fits [] (layout (p .kind)) (p .fields) ≡ true) (λ p q. q .fit) (partsOf ss) f;
+      joined = flat-joins full (external i) ss (g .each) 0;
+    }
+
+pub good-lawful : (full : Bool) (i : ℕ) (ss : List Section) → knownId i ≡ true → GoodSections full (external i) ss → Lawful i (partsOf ss)
+good-lawful full i ss k g =
+    let x : Bool = external i in
+    let back : sectionsOf (partsOf ss) ≡ ss = group-flat ss (grouped full x ss (g .each)) in
+    record {
+      identifier = k;
+      fields = all-map (GoodPart x) (λ (p : Part). Hold (checks x (p .kind) (p .fields))) (λ p q. q .kept) (partsOf ss)
+          (flat-good full x ss (g .each));
+      sections = rw back (g .pairs);
+      tags = rw back (all-map (GoodSection full x) (λ (s : Section). Pairwise otherKind (s .subs)) (λ s q. q .tags) ss (g .each));
+      masks = rw back (all-map (GoodSection full x) (λ (s : Section). maskCovers (s .subs) ≡ true) (λ s q. q .masks) ss (g .each));
+    }
+
+pub good-complete : (x : Bool) (ss : List Section) → GoodSections true x ss → kindBefore information ss ≡ true → Complete (partsOf ss)
+good-complete x ss g k =
+    let back : sectionsOf (partsOf ss) ≡ ss = group-flat ss (grouped true x ss (g .each)) in
+    record {
+      information = flat-has information ss k;
+      within = rw back (all-map (GoodSection true x) (λ (s : Section). hasRequired s ≡ true) (λ s q. q .required) ss (g .each));
+    }
+
+-- Each part of a choice that keeps the rules is good.
+pub choice-parts : (x : Bool) (ps : List Part) → All (λ (p : Part). All Bytes (p .fields)) ps
+    → All (λ (p : Part). fits [] (layout (p .kind)) (p .fields) ≡ true) ps → All (λ (p : Part). Hold (checks x (p .kind) (p .fields))) ps
+    → All (GoodPart x) ps
+choice-parts x [] a b c = tt
+choice-parts x (p ∷ ps) a b c = (record { fit = b .0; bytes = a .0; kept = c .0 }, choice-parts x ps (a .1) (b .1) (c .1))
+
+-- The sections of a choice that keeps the rules are good.
+pub lawful-good : (full : Bool) (i : ℕ) (ps : List Part) → Choice i ps → Lawful i ps
+    → All (λ (s : Section). (not full || hasRequired s) ≡ true) (sectionsOf ps) → GoodSections full (external i) (sectionsOf ps)
+lawful-good full i ps c l r = record {
+  each = choice-good full (external i) ps (choice-parts (external i) ps (c .bytes) (c .fit) (l .fields)) (c .joined) (l .tags) (l .masks) r;
+  pairs = l .sections;
+}
+
+-- ---- accepted exactly when legal
+
+-- What the reading of a token accepts is legal; its parts are those found.
+pub read-legal : (bs : List ℕ) (ss : List Section) → Bytes bs → reading true bs ≡ found ss → Legal bs
+read-legal bs ss b e =
+    let r = reading-sound true bs ss b e in
+    let i : ℕ = idOf bs in
+    let ps : List Part = partsOf ss in
+    let n = whole-token bs ss e in
+    let lw = written-length i ps in
+    let same : written i ps ≡ bs = r .form ∙ take-all (stated bs) bs (omega arith) in
+    let ls = ap length same in
+    let eight = r .eight in
+    let most = r .most in
+    let choice = good-choice true i ss (r .byte) (r .good) in
+    let complete = good-complete (external i) ss (r .good) (r .informed) in
+    let protected = has-protection ss
+    (all-map (GoodSection true (external i)) (λ (s : Section). hasRequired s ≡ true) (λ s q. q .required) ss (r .good .each)) (r .informed) in
+    let long = required-long ps (choice .fit) (complete .information) protected in
+    record {
+      id = i;
+      parts = ps;
+      form = record { choice = choice; parts = stateable ps (omega arith); whole = omega arith; same = same };
+      atLeast = omega arith;
+      atMost = omega arith;
+      lawful = good-lawful true i ss (r .known) (r .good);
+      complete = complete;
+    }
+
+-- Every legal token is accepted, as the sections of its parts.
+pub legal-read : (bs : List ℕ) (l : Legal bs) → reading true bs ≡ found (sectionsOf (l .parts))
+legal-read bs l =
+    let i : ℕ = l .id in
+    let ps : List Part = l .parts in
+    let c = l .form .choice in
+    let e : bs ≡ written i ps ++ [] = sym (l .form .same) ∙ sym (append-nil (written i ps)) in
+    let lb : length bs ≡ length (written i ps) = ap length (sym (l .form .same)) in
+    let small = l .form .whole in
+    let most = l .atMost in
+    let st = header-read i ps bs [] small e .2 in
+    let parts = choice-parts (external i) ps (c .bytes) (c .fit) (l .lawful .fields) in
+    reading-complete true i ps bs [] e (l .lawful .identifier)
+    (and-join _ _ (le-leb (length bs) 3500 most) (eq-eqb (stated bs) (length bs) (st ∙ sym lb)))
+    small
+    (lawful-good true i ps c (l .lawful) (l .complete .within))
+    (choice-flat (external i) ps parts (c .joined))
+    (has-section information ps refl (l .complete .information))

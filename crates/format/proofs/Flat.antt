@@ -23,11 +23,12 @@ use Rattle.format.proofs.Sound.{GoodPart, GoodSub, GoodSection, GoodSec
 -- Every part of good sections is good.
 pub flat-good : (full x : Bool) (ss : List Section) → All (GoodSection full x) ss → All (GoodPart x) (partsOf ss)
 flat-good full x [] g = tt
-flat-good full x (s ∷ ss) g =
-    (g .0 .part,
-    all-join (GoodPart x) (s .subs) (partsOf ss)
+flat-good full x (s ∷ ss) g = (
+  g .0 .part,
+  all-join (GoodPart x) (s .subs) (partsOf ss)
       (all-map (GoodSub x (s .head .kind)) (GoodPart x) (λ p h. h .part) (s .subs) (g .0 .subs))
-      (flat-good full x ss (g .1)))
+      (flat-good full x ss (g .1)),
+)
 
 pub grouped : (full x : Bool) (ss : List Section) → All (GoodSection full x) ss → All Grouped ss
 grouped full x [] g = tt
@@ -35,21 +36,21 @@ grouped full x (s ∷ ss) g = ((g .0 .head, subs-of x (s .head .kind) (s .subs) 
 
 -- Subsections join the section before them.
 join-subs : (x : Bool) (o : Kind) (us ps : List Part) → All (GoodSub x o) us → ((i : ℕ) → i ≡ sectionId o → joins i ps ≡ true)
-  → (i : ℕ) → i ≡ sectionId o → joins i (us ++ ps) ≡ true
+    → (i : ℕ) → i ≡ sectionId o → joins i (us ++ ps) ≡ true
 join-subs x o [] ps g h i e = h i e
 join-subs x o (u ∷ us) ps g h i e =
     and-join (not (isSubsection (u .kind)) || eqb (sectionId (u .kind)) i) _
-      (ap₂ (λ (v w : Bool). not v || w) (g .0 .sub) (eq-eqb (sectionId (u .kind)) i (g .0 .owner ∙ sym e)))
-      (join-subs x o us ps (g .1) h (sectionId (u .kind)) (g .0 .owner))
+    (ap₂ (λ (v w : Bool). not v || w) (g .0 .sub) (eq-eqb (sectionId (u .kind)) i (g .0 .owner ∙ sym e)))
+    (join-subs x o us ps (g .1) h (sectionId (u .kind)) (g .0 .owner))
 
 -- The parts of good sections join, behind whatever section.
 pub flat-joins : (full x : Bool) (ss : List Section) → All (GoodSection full x) ss → (i : ℕ) → joins i (partsOf ss) ≡ true
 flat-joins full x [] g i = refl
 flat-joins full x (s ∷ ss) g i =
     and-join (not (isSubsection (s .head .kind)) || eqb (sectionId (s .head .kind)) i) _
-      (ap (λ (v : Bool). not v || eqb (sectionId (s .head .kind)) i) (g .0 .head))
-      (join-subs x (s .head .kind) (s .subs) (partsOf ss) (g .0 .subs) (λ j e. flat-joins full x ss (g .1) j)
-        (sectionId (s .head .kind)) refl)
+    (ap (λ (v : Bool). not v || eqb (sectionId (s .head .kind)) i) (g .0 .head))
+    (join-subs x (s .head .kind) (s .subs) (partsOf ss) (g .0 .subs) (λ j e. flat-joins full x ss (g .1) j)
+    (sectionId (s .head .kind)) refl)
 
 later : (b c : Bool) → c ≡ true → (b || c) ≡ true
 later true c q = refl
@@ -96,14 +97,14 @@ owned x o [] h = tt
 owned x o (u ∷ us) h = (record { sub = h .0 .0; owner = h .0 .1; part = h .0 .2 }, owned x o us (h .1))
 
 group-cons : (x : Bool) (i : ℕ) (p : Part) (ps : List Part) (b : Bool) → isSubsection (p .kind) ≡ b → GoodPart x p
-  → (b ≡ true → sectionId (p .kind) ≡ i) → Group x (sectionId (p .kind)) ps → Group x i (p ∷ ps)
+    → (b ≡ true → sectionId (p .kind) ≡ i) → Group x (sectionId (p .kind)) ps → Group x i (p ∷ ps)
 group-cons x i p ps true e g own r =
     let fs = is-true (isSubsection (p .kind)) (p ∷ frontSubs ps) [] e in
     let sc = is-true (isSubsection (p .kind)) (sectionsOf ps) (record { head = p; subs = frontSubs ps } ∷ sectionsOf ps) e in
     record {
       front = subst (All (SubOf x i)) (sym fs) ((e, own refl, g), subst (λ (n : ℕ). All (SubOf x n) (frontSubs ps)) (own refl) (r .front));
       flat = ap₂ (λ (us : List Part) (ss : List Section). us ++ partsOf ss) fs sc ∙ ap (λ (y : List Part). p ∷ y) (r .flat);
-      heads = subst (All (HeadOf x)) (sym sc) (r .heads)
+      heads = subst (All (HeadOf x)) (sym sc) (r .heads);
     }
 group-cons x i p ps false e g own r =
     let fs = is-false (isSubsection (p .kind)) (p ∷ frontSubs ps) [] e in
@@ -111,7 +112,7 @@ group-cons x i p ps false e g own r =
     record {
       front = subst (All (SubOf x i)) (sym fs) tt;
       flat = ap₂ (λ (us : List Part) (ss : List Section). us ++ partsOf ss) fs sc ∙ ap (λ (y : List Part). p ∷ y) (r .flat);
-      heads = subst (All (HeadOf x)) (sym sc) ((e, g, owned x (p .kind) (frontSubs ps) (r .front)), r .heads)
+      heads = subst (All (HeadOf x)) (sym sc) ((e, g, owned x (p .kind) (frontSubs ps) (r .front)), r .heads);
     }
 
 group : (x : Bool) (i : ℕ) (ps : List Part) → Each x ps → joins i ps ≡ true → Group x i ps
@@ -138,22 +139,23 @@ choice-flat x ps g j =
 
 -- The sections of a choice that keeps its rules are good.
 goods : (full x : Bool) (ss : List Section) → All (HeadOf x) ss → All (λ (s : Section). Pairwise otherKind (s .subs)) ss
-  → All (λ (s : Section). maskCovers (s .subs) ≡ true) ss → All (λ (s : Section). (not full || hasRequired s) ≡ true) ss
-  → All (GoodSection full x) ss
+    → All (λ (s : Section). maskCovers (s .subs) ≡ true) ss → All (λ (s : Section). (not full || hasRequired s) ≡ true) ss
+    → All (GoodSection full x) ss
 goods full x [] h a b c = tt
-goods full x (s ∷ ss) h a b c =
-    (record { head = h .0 .0; part = h .0 .1; subs = h .0 .2; tags = a .0; masks = b .0; required = c .0 },
-    goods full x ss (h .1) (a .1) (b .1) (c .1))
+goods full x (s ∷ ss) h a b c = (
+  record { head = h .0 .0; part = h .0 .1; subs = h .0 .2; tags = a .0; masks = b .0; required = c .0 },
+  goods full x ss (h .1) (a .1) (b .1) (c .1),
+)
 
 pub choice-good : (full x : Bool) (ps : List Part) → Each x ps → joins 0 ps ≡ true
-  → All (λ (s : Section). Pairwise otherKind (s .subs)) (sectionsOf ps) → All (λ (s : Section). maskCovers (s .subs) ≡ true) (sectionsOf ps)
-  → All (λ (s : Section). (not full || hasRequired s) ≡ true) (sectionsOf ps) → All (GoodSection full x) (sectionsOf ps)
+    → All (λ (s : Section). Pairwise otherKind (s .subs)) (sectionsOf ps) → All (λ (s : Section). maskCovers (s .subs) ≡ true) (sectionsOf ps)
+    → All (λ (s : Section). (not full || hasRequired s) ≡ true) (sectionsOf ps) → All (GoodSection full x) (sectionsOf ps)
 choice-good full x ps g j a b c = goods full x (sectionsOf ps) (group x 0 ps g j .heads) a b c
 
 -- A kind of section among the parts is among the sections.
 section-cons : (k : Kind) (p : Part) (ps : List Part) (b c : Bool) → isSubsection (p .kind) ≡ b → sameKind k (p .kind) ≡ c
-  → isSubsection k ≡ false → (has k ps ≡ true → kindBefore k (sectionsOf ps) ≡ true) → (c || has k ps) ≡ true
-  → kindBefore k (sectionsOf (p ∷ ps)) ≡ true
+    → isSubsection k ≡ false → (has k ps ≡ true → kindBefore k (sectionsOf ps) ≡ true) → (c || has k ps) ≡ true
+    → kindBefore k (sectionsOf (p ∷ ps)) ≡ true
 section-cons k p ps true false e q f ih h =
     ap (kindBefore k) (is-true (isSubsection (p .kind)) (sectionsOf ps) _ e) ∙ ih h
 section-cons k p ps true true e q f ih h =

@@ -33,7 +33,7 @@ one-at bs o b h =
 
 -- Bytes that pass the header's tests begin with a written header that states their length field.
 pub header-written : (bs : List ℕ) → Bytes bs → 8 ≤ length bs → allZero (bytesAt bs 1 1) ≡ true → allZero (bytesAt bs 4 4) ≡ true
-  → (write (stated bs) header ((idOf bs ∷ []) ∷ []) ++ drop 8 bs ≡ bs) × (idOf bs < 256)
+    → (write (stated bs) header ((idOf bs ∷ []) ∷ []) ++ drop 8 bs ≡ bs) × (idOf bs < 256)
 header-written bs b h v z =
     let o = one-at bs 0 b (omega arith) in
     let w = laid-written header (stated bs) [] bs 0 refl b h (tt, (v, (refl, (z, tt)))) in
@@ -41,7 +41,7 @@ header-written bs b h v z =
 
 -- What bytes that begin with a written form say in their header.
 pub header-read : (i : ℕ) (ps : List Part) (bs z : List ℕ) → length (written i ps) < 256 ^ 2 → bs ≡ written i ps ++ z
-  → (idOf bs ≡ i) × (allZero (bytesAt bs 1 1) ≡ true) × (stated bs ≡ length (written i ps)) × (allZero (bytesAt bs 4 4) ≡ true)
+    → (idOf bs ≡ i) × (allZero (bytesAt bs 1 1) ≡ true) × (stated bs ≡ length (written i ps)) × (allZero (bytesAt bs 4 4) ≡ true)
 header-read i ps bs z h e =
     let t : ℕ = 8 + length (writeParts ps) in
     let l = written-length i ps in
@@ -57,13 +57,13 @@ behind-header i ps = refl
 
 -- The first bytes, where the header and what stands behind it are the parts', are the written form.
 pub written-front : (i : ℕ) (ps : List Part) (bs : List ℕ) (n : ℕ) → 8 ≤ n → n ≤ length bs
-  → write n header ((i ∷ []) ∷ []) ++ drop 8 bs ≡ bs → writeParts ps ≡ drop 8 (take n bs) → written i ps ≡ take n bs
+    → write n header ((i ∷ []) ∷ []) ++ drop 8 bs ≡ bs → writeParts ps ≡ drop 8 (take n bs) → written i ps ≡ take n bs
 written-front i ps bs n h k e f =
     let c : List ℕ = take n bs in
     let lc = length-take-le n bs k in
     let lp : length (writeParts ps) ≡ n - 8 = ap length f ∙ length-drop 8 c ∙ ap (λ (m : ℕ). m - 8) lc in
     let t : 8 + length (writeParts ps) ≡ n = omega arith in
     let front : write n header ((i ∷ []) ∷ []) ≡ take 8 c =
-        sym (take-take 8 n bs h ∙ ap (take 8) (sym e) ∙ take-at (write n header ((i ∷ []) ∷ [])) (drop 8 bs) 8 refl) in
+    sym (take-take 8 n bs h ∙ ap (take 8) (sym e) ∙ take-at (write n header ((i ∷ []) ∷ [])) (drop 8 bs) 8 refl) in
     ap₂ (λ (x y : List ℕ). x ++ y) (ap (λ (m : ℕ). write m header ((i ∷ []) ∷ [])) t ∙ front) f
     ∙ take-append-drop 8 c

@@ -12,4 +12,5 @@ pub mod Sound
 pub mod Complete
 pub mod Header
 pub mod Flat
+pub mod Sizes
 pub mod Accepted
