@@ -6,6 +6,7 @@ pub mod Unique
 pub mod Runs
 pub mod Slots
 pub mod Tests
+pub mod Turns
 pub mod PartForm
 pub mod Grouping
 pub mod Sound
