@@ -3,15 +3,17 @@ use mathlib.Core.Path.{_≡_, refl}
 use mathlib.Core.Bool.{Bool, true, false, not, _&&_, _||_}
 use mathlib.Core.List.{List, [], _∷_, _++_}
 use Prim.Native.Nat.{ℕ, zero, suc, _+_, _*_, _/_, _%_}
-use lib.Dec.{T, eqb, lit<}
+use lib.Dec.{lit<, lit≤}
 use lib.ListN.{length, getD, take, drop, replicate, set}
 use Rattle.format.specs.Parts.{Part, information, protection}
+use Rattle.format.specs.Legal.{Legal}
 use Rattle.format.specs.Table.{rows}
 use Rattle.format.specs.Lines.{text, firstLine, rowLine}
 use Rattle.format.specs.declared.Row.{Row}
 use Rattle.format.specs.Bytes.{number, bytesAt, allZero, sameBytes}
 use Rattle.format.specs.Forms.{ruleIdForm, dateExists, labelForm, modulusForm, exponentForm, inOrder}
 use Rattle.format.specs.Reading.{answer, told, reading, sections, section, sectionRest, closed, subsections, subsection, tested, need, andThen}
+use Rattle.format.proofs.Numbers.{bytes-zeros}
 use Rattle.format.specs.declared.Answer.{Answer}
 use Rattle.format.specs.declared.Answer.the-variants.{Accepted, Refused}
 
@@ -75,3 +77,27 @@ pub listing-T :
     ≡ text "token external 80 bytes 2 rows\n0 14 - 8 72 0\n1 14 0001 18 62 0\n"
 unfolding answer told reading sections section sectionRest closed subsections subsection tested need andThen number bytesAt allZero sameBytes firstLine rowLine
 listing-T = refl
+
+-- The smallest token is legal, and its parts are those two.
+pub legal-T : Legal tokenT
+unfolding number allZero
+legal-T = record {
+  id = 0x1E;
+  parts = partsT;
+  form = record {
+    choice = record { identifier = lit< tt; bytes = ((bytes-zeros 4, tt), ((bytes-zeros 32, (bytes-zeros 8, (bytes-zeros 16, tt))), tt)); fit = (refl, (refl, tt)); joined = refl };
+    parts = (lit< tt, (lit< tt, tt));
+    whole = lit< tt;
+    same = refl;
+  };
+  atLeast = lit≤ tt;
+  atMost = lit≤ tt;
+  lawful = record {
+    identifier = refl;
+    fields = ((refl, tt), ((refl, tt), tt));
+    sections = (tt, tt);
+    tags = ((tt, tt), tt);
+    masks = (refl, tt);
+  };
+  complete = record { information = refl; within = (refl, tt) };
+}

@@ -8,6 +8,7 @@ pub mod Slots
 pub mod Tests
 pub mod Turns
 pub mod PartForm
+pub mod Layouts
 pub mod Grouping
 pub mod Sound
 pub mod Complete
