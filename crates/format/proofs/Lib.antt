@@ -16,3 +16,4 @@ pub mod Header
 pub mod Flat
 pub mod Sizes
 pub mod Accepted
+pub mod Beginnings
