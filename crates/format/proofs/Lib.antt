@@ -17,3 +17,4 @@ pub mod Flat
 pub mod Sizes
 pub mod Accepted
 pub mod Beginnings
+pub mod Writing
