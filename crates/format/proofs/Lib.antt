@@ -18,3 +18,4 @@ pub mod Sizes
 pub mod Accepted
 pub mod Beginnings
 pub mod Writing
+pub mod Changes
