@@ -111,7 +111,7 @@ framed-stated : (b : Bool) (i g t : ℕ) (r : List ℕ) → Framed b i g t r →
 framed-stated false i g t r f = f .2
 framed-stated true i g t r f = f .2
 
-part-stated : (p : Part) (t : ℕ) (r z : List ℕ) → t < 256 ^ 2 → fits [] (layout (p .kind)) (p .fields) ≡ true
+pub part-stated : (p : Part) (t : ℕ) (r z : List ℕ) → t < 256 ^ 2 → fits [] (layout (p .kind)) (p .fields) ≡ true
     → r ≡ write t (layout (p .kind)) (p .fields) ++ z → stated r ≡ t
 part-stated p t r z h f e =
     framed-stated (isSubsection (p .kind)) (sectionId (p .kind)) (tag (p .kind)) t r

@@ -19,3 +19,4 @@ pub mod Accepted
 pub mod Beginnings
 pub mod Writing
 pub mod Changes
+pub mod Additions

@@ -1,0 +1,144 @@
+-- What an accepted addition makes of any lent draft: the added bytes, the header's length and, for a subsection, its
+-- section's length; every other byte stays.
+use mathlib.Core.Path.{_≡_, refl, sym, ap, ap₂, _∙_, subst}
+use mathlib.Core.Bool.{Bool, true, false, not, _&&_, _||_}
+use mathlib.Core.List.{List, [], _∷_, _++_, append-assoc, append-nil}
+use Prim.Native.Nat.{ℕ, zero, suc, _+_, _^_, _≤_, _<_}
+use native.Mathlib.Omega.{arith}
+use lib.Dec.{eqb, leb}
+use lib.ListN.{length, take, drop, length-append, take-append-drop}
+use lib.Seq.{take-at, drop-at}
+use borrow.Author.Tests.{eqb-true}
+use Rattle.format.specs.Bytes.{All, Bytes}
+use Rattle.format.specs.Layout.{Fields, fits, write}
+use Rattle.format.specs.Parts.{Kind, sectionId, isSubsection, layout, Part, size, span, writeParts, written, joins, header}
+use Rattle.format.specs.Rules.{external, Section, sectionsOf}
+use Rattle.format.specs.Reading.{found, idOf, stated, reading, partsOf}
+use Rattle.format.specs.Writer.{longer, addition}
+use Rattle.format.proofs.Finding.{and-split, sectionId-pos}
+use Rattle.format.proofs.Unique.{size-any, written-length}
+use Rattle.format.proofs.Tests.{needed, found-inj, followed}
+use Rattle.format.proofs.Grouping.{all-split, group-flat, parts-last, parts-then-section, span-le}
+use Rattle.format.proofs.Sound.{GoodSection, subs-of}
+use Rattle.format.proofs.Complete.{part-stated}
+use Rattle.format.proofs.Flat.{grouped}
+use Rattle.format.proofs.Accepted.{reading-sound, good-choice, good-lawful}
+use Rattle.format.proofs.Writing.{Draft, draft-of, draft-front, draft-header}
+use Rattle.format.proofs.Changes.{restate, placeBehind, section-added, sub-added}
+
+-- Any bytes that read as a draft are the draft of the parts found.
+pub any-draft : (d : List ℕ) (ss : List Section) → Bytes d → reading false d ≡ found ss → Draft (idOf d) (partsOf ss) d
+any-draft d ss b e =
+    let r = reading-sound false d ss b e in
+    let i : ℕ = idOf d in
+    let n : ℕ = stated d in
+    let ends = r .ends in
+    let most = r .most in
+    let form : d ≡ written i (partsOf ss) ++ drop n d =
+    sym (take-append-drop n d) ∙ ap (λ (y : List ℕ). y ++ drop n d) (sym (r .form)) in
+    let l = ap length (r .form) ∙ lib.Seq.length-take-le n d ends in
+    draft-of i (partsOf ss) d (drop n d) (good-choice false i ss (r .byte) (r .good)) (good-lawful false i ss (r .known) (r .good)) (omega arith) form
+
+-- What an accepted addition has passed: the draft reads as sections ss, the part joins them, and the longer draft is written.
+pub record Passed (d : List ℕ) (p : Part) (bs : List ℕ) : Type 0 where
+  pub sections : List Section
+  pub read : reading false d ≡ found sections
+  pub joins : joins 0 (partsOf sections ++ p ∷ []) ≡ true
+  pub form : written (idOf d) (partsOf sections ++ p ∷ []) ≡ bs
+
+pub addition-passed : (d : List ℕ) (p : Part) (bs : List ℕ) → addition (p .kind) (p .fields) d ≡ found bs → Passed d p bs
+unfolding addition
+addition-passed d p bs e =
+    let f = followed (reading false d) _ bs e in
+    let n₁ = needed (fits [] (layout (p .kind)) (p .fields)) _ _ bs (f .2) in
+    let n₂ = needed (joins 0 (partsOf (f .0) ++ p ∷ [])) _ _ bs (n₁ .1) in
+    let n₃ = needed (leb (stated d + size p) 3500 && leb (stated d + size p) (length d)) _ _ bs (n₂ .1) in
+    let g = followed (reading false (longer d (f .0) p)) _ bs (n₃ .1) in
+    record { sections = f .0; read = f .1; joins = n₂ .0; form = found-inj (g .2) }
+
+-- A section added changes the header's length and puts its bytes behind the draft's.
+pub section-changes : (d : List ℕ) (p : Part) (bs : List ℕ) → Bytes d → isSubsection (p .kind) ≡ false
+    → addition (p .kind) (p .fields) d ≡ found bs
+    → bs ≡ restate 0 (stated d + size p) (take (stated d) d) ++ write (size p) (layout (p .kind)) (p .fields)
+section-changes d p bs b f e =
+    let a = addition-passed d p bs e in
+    let ps : List Part = partsOf (a .sections) in
+    let w = any-draft d (a .sections) b (a .read) in
+    let st = draft-header (idOf d) ps d w .1 in
+    let front = draft-front (idOf d) ps d w in
+    sym (a .form)
+    ∙ section-added (idOf d) ps p f
+    ∙ ap₂ (λ (n : ℕ) (y : List ℕ). restate 0 (n + size p) y ++ write (size p) (layout (p .kind)) (p .fields)) (sym st) (sym front)
+
+-- A list that is not empty has a last element.
+last-of : (s : Section) (ss : List Section) → (ts : List Section) × (t : Section) × (s ∷ ss ≡ ts ++ t ∷ [])
+last-of s [] = ([], s, refl)
+last-of s (q ∷ ss) = let i = last-of q ss in (s ∷ i .0, i .1, ap (λ (y : List Section). s ∷ y) (i .2))
+
+-- A subsection joins some section.
+joined : (p : Part) (ss : List Section) → isSubsection (p .kind) ≡ true → joins 0 (partsOf ss ++ p ∷ []) ≡ true
+    → (ts : List Section) × (t : Section) × (ss ≡ ts ++ t ∷ [])
+joined p [] f j =
+    let a = and-split (not (isSubsection (p .kind)) || eqb (sectionId (p .kind)) 0) true j .0 in
+    let b : eqb (sectionId (p .kind)) 0 ≡ true = sym (ap (λ (v : Bool). not v || eqb (sectionId (p .kind)) 0) f) ∙ a in
+    absurd (let c = eqb-true (sectionId (p .kind)) 0 b in let z = sectionId-pos (p .kind) in omega arith)
+joined p (s ∷ ss) f j = last-of s ss
+
+-- The last section of a draft stands behind the others, and states its length there.
+last-stated : (i : ℕ) (ts : List Section) (t : Section) (d : List ℕ) → Draft i (partsOf (ts ++ t ∷ [])) d
+    → isSubsection (t .head .kind) ≡ false → fits [] (layout (t .head .kind)) (t .head .fields) ≡ true
+    → stated (drop (placeBehind ts) d) ≡ span (t .head) (t .subs)
+last-stated i ts t d w f fit =
+    let ps : List Part = partsOf (ts ++ t ∷ []) in
+    let A : List ℕ = writeParts (partsOf ts) in
+    let B : List ℕ = writeParts (t .head ∷ t .subs) in
+    let H : List ℕ = write (8 + length (writeParts ps)) header ((i ∷ []) ∷ []) in
+    let S : List ℕ = write (span (t .head) (t .subs)) (layout (t .head .kind)) (t .head .fields) in
+    let parts : writeParts ps ≡ A ++ B = ap writeParts (parts-last ts t) ∙ parts-then-section (partsOf ts) (t .head) (t .subs) f in
+    let lp = ap length parts in
+    let lab = length-append A B in
+    let lw = written-length i ps in
+    let small = w .small in
+    let sp = span-le (t .head) (t .subs) in
+    let place : length (H ++ A) ≡ placeBehind ts = omega arith in
+    let form : d ≡ (H ++ A) ++ (B ++ w .rest) =
+    w .form
+    ∙ ap (λ (y : List ℕ). (H ++ y) ++ w .rest) parts
+    ∙ ap (λ (y : List ℕ). y ++ w .rest) (sym (append-assoc H A B))
+    ∙ append-assoc (H ++ A) B (w .rest) in
+    let rest : drop (placeBehind ts) d ≡ S ++ (writeParts (t .subs) ++ w .rest) =
+    ap (drop (placeBehind ts)) form ∙ drop-at (H ++ A) (B ++ w .rest) (placeBehind ts) place ∙ append-assoc S (writeParts (t .subs)) (w .rest) in
+    part-stated (t .head) (span (t .head) (t .subs)) (drop (placeBehind ts) d) (writeParts (t .subs) ++ w .rest) (omega arith) fit rest
+
+-- A subsection added changes the header's length and that of the last section, and puts its bytes behind the draft's.
+pub sub-changes : (d : List ℕ) (p : Part) (bs : List ℕ) → Bytes d → isSubsection (p .kind) ≡ true
+    → addition (p .kind) (p .fields) d ≡ found bs
+    → (ts : List Section)
+    × (t : Section)
+    × (reading false d ≡ found (ts ++ t ∷ []))
+    × (bs
+    ≡ restate (placeBehind ts) (stated (drop (placeBehind ts) d) + size p) (restate 0 (stated d + size p) (take (stated d) d))
+    ++ write (size p) (layout (p .kind)) (p .fields))
+sub-changes d p bs b f e =
+    let a = addition-passed d p bs e in
+    let j = joined p (a .sections) f (a .joins) in
+    let ts : List Section = j .0 in
+    let t : Section = j .1 in
+    let read : reading false d ≡ found (ts ++ t ∷ []) = a .read ∙ ap found (j .2) in
+    let r = reading-sound false d (ts ++ t ∷ []) b read in
+    let g = all-split (GoodSection false (external (idOf d))) ts (t ∷ []) (r .good .each) .1 .0 in
+    let i : ℕ = idOf d in
+    let ps : List Part = partsOf (ts ++ t ∷ []) in
+    let w = any-draft d (ts ++ t ∷ []) b read in
+    let st = draft-header i ps d w .1 in
+    let front = draft-front i ps d w in
+    let last = last-stated i ts t d w (g .head) (g .part .fit) in
+    let form : written i (ps ++ p ∷ []) ≡ bs = ap (λ (ss : List Section). written i (partsOf ss ++ p ∷ [])) (sym (j .2)) ∙ a .form in (
+      ts,
+      t,
+      read,
+      sym form
+          ∙ sub-added i ts t p (g .head) (subs-of (external i) (t .head .kind) (t .subs) (g .subs)) f
+          ∙ ap₂ (λ (n : ℕ) (y : List ℕ). restate (placeBehind ts) (span (t .head) (t .subs) + size p) (restate 0 (n + size p) y) ++ write (size p) (layout (p .kind)) (p .fields)) (sym st) (sym front)
+          ∙ ap (λ (n : ℕ). restate (placeBehind ts) (n + size p) (restate 0 (stated d + size p) (take (stated d) d)) ++ write (size p) (layout (p .kind)) (p .fields)) (sym last),
+    )
