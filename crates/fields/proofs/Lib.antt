@@ -1,2 +1,5 @@
+pub mod Classes
+pub mod Labels
 pub mod Lists
 pub mod Numbers
+pub mod Runs

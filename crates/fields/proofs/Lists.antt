@@ -6,7 +6,7 @@ use native.Mathlib.Nat.{add-zero, mul-one, suc-mul, mul-assoc, add-mul, mul-le-m
 use native.Mathlib.Numerals.{add-one}
 use native.Mathlib.Omega.{arith}
 use lib.ListN.{length, getD, take, drop, length-drop}
-use lib.Seq.{drop-cons, length-take-le, take-add, drop-drop}
+use lib.Seq.{drop-cons, length-take-le, take-add, take-take, drop-drop, drop-at, getD-take, getD-drop}
 use lib.Dec.{eqb}
 use lib.Bits.{bitOr, or-zero-l, or-add-and, and-le-r}
 use mathlib.Core.Bool.{Bool, true, false, _&&_, and-assoc}
@@ -42,6 +42,22 @@ bytes-length s i n h = length-take-le n (drop i s) (rw length-drop (omega arith)
 pub bytes-join : (s : List ℕ) (i n m : ℕ) → bytesAt s i (n + m) ≡ bytesAt s i n ++ bytesAt s (i + n) m
 unfolding bytesAt
 bytes-join s i n m = take-add n m (drop i s) ∙ ap (λ (l : List ℕ). take n (drop i s) ++ take m l) (drop-drop n i s)
+
+-- those behind the first k, and the first k alone
+pub bytes-drop : (s : List ℕ) (i n k : ℕ) → i + n ≤ length s → k ≤ n → drop k (bytesAt s i n) ≡ bytesAt s (i + k) (n - k)
+bytes-drop s i n k h l =
+    let e : n ≡ k + (n - k) = omega arith in
+    ap (λ (m : ℕ). drop k (bytesAt s i m)) e ∙ ap (drop k) (bytes-join s i k (n - k))
+    ∙ drop-at (bytesAt s i k) (bytesAt s (i + k) (n - k)) k (bytes-length s i k (omega arith))
+
+pub bytes-take : (s : List ℕ) (i n k : ℕ) → k ≤ n → take k (bytesAt s i n) ≡ bytesAt s i k
+unfolding bytesAt
+bytes-take s i n k l = take-take k n (drop i s) l
+
+-- the k-th of them
+pub bytes-get : (s : List ℕ) (i n k : ℕ) → k < n → getD (bytesAt s i n) k 0 ≡ getD s (i + k) 0
+unfolding bytesAt
+bytes-get s i n k l = getD-take n (drop i s) k 0 l ∙ getD-drop i s k 0
 
 -- ---- all 0
 

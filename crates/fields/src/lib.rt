@@ -1,4 +1,7 @@
-// Internal: the readings of single fields. Each asks that its bytes are there.
+// Internal: the readings of single fields. Each asks that its bytes are there. Numbers stand here, characters, dates and
+// keys in modules of their own.
+pub mod characters; // characters.rt: characters, Rule IDs, label templates
+
 ghost use mathlib.Core.Path.{_≡_};
 ghost use Prim.Native.Nat.{_+_, _<_, _≤_};
 ghost use lib.ListN.{length};
