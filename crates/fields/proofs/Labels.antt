@@ -27,58 +27,72 @@ module _ (s : List ℕ) (i : ℕ) (fits : i + 64 ≤ length s) {p : ℕ}
   unfolding labelForm
   label-none e = rw (padded-none inLabel 1 4 label-class s i 64 fits run e)
 
-  module _ (some : p ≡ i → ⊥) (l : p ≤ i + 64) {q : ℕ}
+  module _ (some : p ≡ i → ⊥) (within : p ≤ i + 64) {q : ℕ}
       (spaces : q ≡ p + leading (ofClass 5 5) (bytesAt s p ((i + 64) - p))) where
     -- others than spaces follow
     pub label-other : (q ≡ i + 64 → ⊥) → labelForm (bytesAt s i 64) ≡ false
     unfolding labelForm
-    label-other e = rw (padded-run inLabel 1 4 label-class s i 64 fits run some l spaces, ne-eqb q (i + 64) e)
+    label-other e = rw (padded-run inLabel 1 4 label-class s i 64 fits run some within spaces, ne-eqb q (i + 64) e)
 
-    module _ (e : q ≡ i + 64) {first n : ℕ} (f : first ≡ classOf (getD s i 0)) (m : n ≡ howMany star (bytesAt s i (p - i))) where
-      -- what is left where spaces follow
-      label-told : labelForm (bytesAt s i 64) ≡ labelOf true (eqb first 2) n (eqb first 4) (star (getD s (p - 1) 0))
-      unfolding labelForm
-      label-told =
-          let bs = bytesAt s i 64 in
-          let c : leading inLabel bs ≡ p - i = run-count inLabel 1 4 label-class s i 64 fits run in
-          let h : 0 < p - i = pos-of-ne-zero (λ (z : p - i ≡ 0). some (omega arith)) in
-          let a : padded inLabel bs ≡ true = padded-run inLabel 1 4 label-class s i 64 fits run some l spaces ∙ eq-eqb q (i + 64) e in
-          let x : getD bs 0 0 ≡ getD s i 0 = bytes-get s i 64 0 (omega arith) ∙ ap (λ (j : ℕ). getD s j 0) (add-zero i) in
-          let d : digit (getD bs 0 0) ≡ eqb first 2 = ap digit x ∙ digit-class (getD s i 0) ∙ ap (λ (k : ℕ). eqb k 2) (sym f) in
-          let u : star (getD bs 0 0) ≡ eqb first 4 = ap star x ∙ star-class (getD s i 0) ∙ ap (λ (k : ℕ). eqb k 4) (sym f) in
-          let k : howMany star (take (leading inLabel bs) bs) ≡ n
-          = ap (λ (j : ℕ). howMany star (take j bs)) c ∙ ap (howMany star) (bytes-take s i 64 (p - i) (omega arith)) ∙ sym m in
-          let y : i + (p - i - 1) ≡ p - 1 = omega arith in
-          let v : star (getD bs (leading inLabel bs - 1) 0) ≡ star (getD s (p - 1) 0)
-          = ap (λ (j : ℕ). star (getD bs (j - 1) 0)) c
-          ∙ ap star (bytes-get s i 64 (p - i - 1) (omega arith))
-          ∙ ap (λ (j : ℕ). star (getD s j 0)) y in
-          rw (a, d, k, u, v)
+    -- only spaces follow
+    pub label-spaces : q ≡ i + 64 → padded inLabel (bytesAt s i 64) ≡ true
+    label-spaces e = padded-run inLabel 1 4 label-class s i 64 fits run some within spaces ∙ eq-eqb q (i + 64) e
 
-      -- the first is a digit
-      pub label-digit : first ≡ 2 → labelForm (bytesAt s i 64) ≡ false
-      label-digit h = label-told ∙ rw (eq-eqb first 2 h)
+-- what the code has found where characters to p and then spaces stand at i, and the first is of a class
+pub record Template (s : List ℕ) (i p first : ℕ) : Type 0 where
+  pub fits : i + 64 ≤ length s
+  pub run : p ≡ i + leading (ofClass 1 4) (bytesAt s i ((i + 64) - i))
+  pub some : p ≡ i → ⊥
+  pub within : p ≤ i + 64
+  pub spaces : padded inLabel (bytesAt s i 64) ≡ true
+  pub class : first ≡ classOf (getD s i 0)
 
-      module _ (h : first ≡ 2 → ⊥) where
-        -- no star
-        pub label-plain : n ≡ 0 → labelForm (bytesAt s i 64) ≡ true
-        label-plain z = label-told ∙ rw (ne-eqb first 2 h, z)
+module _ {s : List ℕ} {i p first n : ℕ} (t : Template s i p first) (m : n ≡ howMany star (bytesAt s i (p - i))) where
+  -- what is left to tell
+  label-told : labelForm (bytesAt s i 64) ≡ labelOf true (eqb first 2) n (eqb first 4) (star (getD s (p - 1) 0))
+  unfolding labelForm
+  label-told =
+      let bs = bytesAt s i 64 in
+      let c : leading inLabel bs ≡ p - i = run-count inLabel 1 4 label-class s i 64 (t .fits) (t .run) in
+      let h : 0 < p - i = pos-of-ne-zero (λ (z : p - i ≡ 0). t .some (omega arith)) in
+      let x : getD bs 0 0 ≡ getD s i 0 = bytes-get s i 64 0 (omega arith) ∙ ap (λ (j : ℕ). getD s j 0) (add-zero i) in
+      let d : digit (getD bs 0 0) ≡ eqb first 2
+      = ap digit x ∙ digit-class (getD s i 0) ∙ ap (λ (k : ℕ). eqb k 2) (sym (t .class)) in
+      let u : star (getD bs 0 0) ≡ eqb first 4
+      = ap star x ∙ star-class (getD s i 0) ∙ ap (λ (k : ℕ). eqb k 4) (sym (t .class)) in
+      let k : howMany star (take (leading inLabel bs) bs) ≡ n
+      = ap (λ (j : ℕ). howMany star (take j bs)) c ∙ ap (howMany star) (bytes-take s i 64 (p - i) (omega arith)) ∙ sym m in
+      let y : i + (p - i - 1) ≡ p - 1 = omega arith in
+      let v : star (getD bs (leading inLabel bs - 1) 0) ≡ star (getD s (p - 1) 0)
+      = ap (λ (j : ℕ). star (getD bs (j - 1) 0)) c
+      ∙ ap star (bytes-get s i 64 (p - i - 1) (omega arith))
+      ∙ ap (λ (j : ℕ). star (getD s j 0)) y in
+      rw (t .spaces, d, k, u, v)
 
-        -- more than one
-        pub label-many : (n ≡ 0 → ⊥) → (n ≡ 1 → ⊥) → labelForm (bytesAt s i 64) ≡ false
-        label-many z o =
-            let g : 0 < n = pos-of-ne-zero z in
-            let k : 0 < n - 1 = pos-of-ne-zero (λ (r : n - 1 ≡ 0). o (omega arith)) in
-            label-told ∙ rw (ne-eqb first 2 h, lt-leb n 1 (omega arith))
+  -- the first is a digit
+  pub label-digit : first ≡ 2 → labelForm (bytesAt s i 64) ≡ false
+  label-digit h = label-told ∙ rw (eq-eqb first 2 h)
 
-        -- one, which stands first
-        pub label-first : n ≡ 1 → first ≡ 4 → eqb first 4 ≡ labelForm (bytesAt s i 64)
-        label-first o u =
-            let b : eqb first 4 ≡ true = eq-eqb first 4 u in
-            b ∙ sym (label-told ∙ rw (ne-eqb first 2 h, o, b))
+  module _ (h : first ≡ 2 → ⊥) where
+    -- no star
+    pub label-plain : n ≡ 0 → labelForm (bytesAt s i 64) ≡ true
+    label-plain z = label-told ∙ rw (ne-eqb first 2 h, z)
 
-        -- one, which must stand last
-        pub label-last : {last : ℕ} → n ≡ 1 → (first ≡ 4 → ⊥) → last ≡ classOf (getD s (p - 1) 0)
-            → eqb last 4 ≡ labelForm (bytesAt s i 64)
-        label-last {last} o u v =
-            ap (λ (k : ℕ). eqb k 4) v ∙ sym (label-told ∙ rw (ne-eqb first 2 h, o, ne-eqb first 4 u) (star-class (getD s (p - 1) 0)))
+    -- more than one
+    pub label-many : (n ≡ 0 → ⊥) → (n ≡ 1 → ⊥) → labelForm (bytesAt s i 64) ≡ false
+    label-many z o =
+        let g : 0 < n = pos-of-ne-zero z in
+        let k : 0 < n - 1 = pos-of-ne-zero (λ (r : n - 1 ≡ 0). o (omega arith)) in
+        label-told ∙ rw (ne-eqb first 2 h, lt-leb n 1 (omega arith))
+
+    -- one, which stands first
+    pub label-first : n ≡ 1 → first ≡ 4 → eqb first 4 ≡ labelForm (bytesAt s i 64)
+    label-first o u =
+        let b : eqb first 4 ≡ true = eq-eqb first 4 u in
+        b ∙ sym (label-told ∙ rw (ne-eqb first 2 h, o, b))
+
+    -- one, which must stand last
+    pub label-last : {last : ℕ} → n ≡ 1 → (first ≡ 4 → ⊥) → last ≡ classOf (getD s (p - 1) 0)
+        → eqb last 4 ≡ labelForm (bytesAt s i 64)
+    label-last {last} o u v =
+        ap (λ (k : ℕ). eqb k 4) v ∙ sym (label-told ∙ rw (ne-eqb first 2 h, o, ne-eqb first 4 u) (star-class (getD s (p - 1) 0)))
