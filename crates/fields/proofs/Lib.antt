@@ -1,4 +1,5 @@
 pub mod Classes
+pub mod Days
 pub mod Labels
 pub mod Lists
 pub mod Numbers
