@@ -1,8 +1,13 @@
-// Internal: the readings of single fields. Each asks that its bytes are there.
+// Internal: the readings of single fields. Each asks that its bytes are there. Numbers stand here, characters, dates and
+// keys in modules of their own.
+pub mod characters; // characters.rt: characters, Rule IDs, label templates
+pub mod dates; // dates.rt: dates that exist, and their order
+pub mod keys; // keys.rt: lengths of keys, the modulus and the exponent of the public key
+
 ghost use mathlib.Core.Path.{_≡_};
 ghost use Prim.Native.Nat.{_+_, _<_, _≤_};
 ghost use lib.ListN.{length};
-ghost use Rattle.format.specs.Bytes.{number, bytesAt};
+ghost use Rattle.format.specs.Bytes.{number, bytesAt, allZero};
 
 pub fn wide(x: u8) -> usize
     ensures { λ r. ⌜ (r ≡ x) × (r < 256) ⌝ }
@@ -30,4 +35,27 @@ pub fn four(s: &[u8], i: usize) -> u32
     ensures { λ r. ⌜ r ≡ number (bytesAt (now (s .entry)) i 4) ⌝ }
 {
     wide32(s[i]) * 16777216 + wide32(s[i + 1]) * 65536 + wide32(s[i + 2]) * 256 + wide32(s[i + 3])
+}
+
+// The number in the eight bytes at i.
+pub fn eight(s: &[u8], i: usize) -> u64
+    requires { ⌜ i + 8 ≤ length (now s) ⌝ }
+    ensures { λ r. ⌜ r ≡ number (bytesAt (now (s .entry)) i 8) ⌝ }
+{
+    four(s, i) as u64 * 4294967296 + four(s, i + 4) as u64
+}
+
+// The n bytes at i are all 0.
+pub fn all_zero(s: &[u8], i: usize, n: usize) -> bool
+    requires { ⌜ i + n ≤ length (now s) ⌝ }
+    ensures { λ r. ⌜ r ≡ allZero (bytesAt (now (s .entry)) i n) ⌝ }
+{
+    let e = i + n;
+    let mut bits = 0;
+    let mut p = i;
+    while p < e {
+        bits = bits | s[p];
+        p += 1;
+    }
+    bits == 0
 }
