@@ -8,14 +8,15 @@ use native.Mathlib.Omega.{arith}
 use lib.Dec.{eqb, leb}
 use lib.ListN.{length, getD, take, drop, length-drop}
 use lib.Seq.{drop-drop}
-use borrow.Author.Tests.{eq-eqb, ne-eqb, eqb-true, le-leb, lt-leb}
+use borrow.Author.Tests.{eq-eqb, ne-eqb, eqb-false, le-leb, lt-leb, leb-true, not-true}
 use Rattle.format.specs.Bytes.{numberFrom, number, bytesAt, allZero}
+use Rattle.format.proofs.Finding.{and-split}
 use Rattle.fields.proofs.Numbers.{number-none, number-more}
-use Rattle.format.specs.Rules.{Check, check}
-use Rattle.format.specs.Reading.{Outcome, refused, found, need, tested, told}
+use Rattle.format.specs.Rules.{Check, check, patternAllowed}
+use Rattle.format.specs.Reading.{Outcome, refused, found, need, tested, told, stated}
 use Rattle.format.specs.declared.Answer.{Answer}
 use Rattle.format.specs.declared.Answer.the-variants.{Accepted, Refused}
-use Rattle.sections.specs.Refusals.{firstRefusal, unless}
+use Rattle.sections.specs.Refusals.{firstRefusal, unless, subHeadChecks}
 
 -- ---- bytes behind a place
 
@@ -60,6 +61,31 @@ abbrev pub numbered : List Check → Bool
 numbered [] = true
 numbered (c ∷ cs) = not (eqb (c .refusal) 0) && numbered cs
 
+-- the tests in front stop, or lead to those behind
+stop-case : (b : Bool) (h m k r : ℕ) → h ≡ elim b as (λ x. ℕ) [ true ↦ m | false ↦ r ] → (h ≡ m → h ≡ k)
+    → h ≡ elim b as (λ x. ℕ) [ true ↦ k | false ↦ r ]
+stop-case true h m k r q ih = ih q
+stop-case false h m k r q ih = q
+
+pub head-stop : {h : ℕ} (cs ds : List Check) → h ≡ firstRefusal cs → (h ≡ 0 → ⊥) → h ≡ firstRefusal (cs ++ ds)
+unfolding firstRefusal
+head-stop [] ds e n = absurd (n e)
+head-stop {h} (c ∷ cs) ds e n =
+    stop-case (c .holds) h (firstRefusal cs) (firstRefusal (cs ++ ds)) (c .refusal) e (λ q. head-stop cs ds q n)
+
+pass-case : (b : Bool) (h m n k r : ℕ) → not (eqb r 0) ≡ true → h ≡ elim b as (λ x. ℕ) [ true ↦ m | false ↦ r ] → h ≡ 0
+    → (h ≡ m → n ≡ k) → n ≡ elim b as (λ x. ℕ) [ true ↦ k | false ↦ r ]
+pass-case true h m n k r f q z ih = ih q
+pass-case false h m n k r f q z ih = absurd (eqb-false r 0 (not-true (eqb r 0) f) (sym q ∙ z))
+
+pub head-pass : {h n : ℕ} (cs ds : List Check) → numbered cs ≡ true → h ≡ firstRefusal cs → h ≡ 0 → n ≡ firstRefusal ds
+    → n ≡ firstRefusal (cs ++ ds)
+unfolding firstRefusal
+head-pass [] ds f e z q = q
+head-pass {h} {n} (c ∷ cs) ds f e z q =
+    let s = and-split (not (eqb (c .refusal) 0)) (numbered cs) f in
+    pass-case (c .holds) h (firstRefusal cs) n (firstRefusal (cs ++ ds)) (c .refusal) (s .0) e z (λ w. head-pass cs ds (s .1) w z q)
+
 -- a refusal in front of another
 pub unless-zero : {n : ℕ} (at : ℕ) (a : Answer) → n ≡ 0 → unless n at a ≡ a
 unfolding unless
@@ -99,6 +125,32 @@ module _ (s : List ℕ) (p o n : ℕ) {v : ℕ} (e : v ≡ number (bytesAt s (p 
   pub below : (m : ℕ) → v < m → leb m (number (bytesAt (drop p s) o n)) ≡ false
   below m h = lt-leb m (number (bytesAt (drop p s) o n)) (omega (arith, number-at))
 
+-- the number is k, or another
+module _ (s : List ℕ) (p o n : ℕ) {v : ℕ} (e : v ≡ number (bytesAt s (p + o) n)) where
+  pub equal : (k : ℕ) → v ≡ k → eqb k (number (bytesAt (drop p s) o n)) ≡ true
+  equal k h = eq-eqb k _ (sym h ∙ number-at s p o n e)
+
+  pub unequal : (k : ℕ) → (v ≡ k → ⊥) → eqb k (number (bytesAt (drop p s) o n)) ≡ false
+  unequal k h = ne-eqb k _ (λ q. h (number-at s p o n e ∙ sym q))
+
+-- a field's test, made on the bytes at its place
+pub field-at : {b : Bool} (f : List ℕ → Bool) (s : List ℕ) (p o n : ℕ) → b ≡ f (bytesAt s (p + o) n) → b ≡ f (bytesAt (drop p s) o n)
+field-at f s p o n e = e ∙ sym (ap f (at-drop s p o n))
+
+-- what the first test of a head leaves where none refuses
+room-case : (a b : Bool) (h k r m l n : ℕ) → leb m l ≡ a → leb l n ≡ b → (r ≡ 0 → ⊥) → h ≡ 0
+    → h ≡ elim (a && b) as (λ x. ℕ) [ true ↦ k | false ↦ r ] → (m ≤ l) × (l ≤ n)
+room-case true true h k r m l n q w f z e = (leb-true m l q, leb-true l n w)
+room-case true false h k r m l n q w f z e = absurd (f (sym e ∙ z))
+room-case false b h k r m l n q w f z e = absurd (f (sym e ∙ z))
+
+-- what the tests of a subsection's head leave: its least length, and so its fixed fields, lie within the n bytes
+pub room-for : {h : ℕ} (m n : ℕ) (seen : Bool) (r : List ℕ) → h ≡ firstRefusal (subHeadChecks m seen n r) → h ≡ 0
+    → (m ≤ stated r) × (stated r ≤ n)
+unfolding firstRefusal subHeadChecks
+room-for {h} m n seen r e z =
+    room-case (leb m (stated r)) (leb (stated r) n) h _ 12 m (stated r) n refl refl (λ q. omega arith) z e
+
 -- a single byte as a number
 pub byte-number : (s : List ℕ) (i : ℕ) → i < length s → getD s i 0 ≡ number (bytesAt s i 1)
 byte-number s i h =
@@ -115,3 +167,10 @@ first-not b e = rw e
 
 pub second-not : {a b : Bool} → a ≡ true → b ≡ false → (a && b) ≡ false
 second-not e f = rw e f
+
+-- the pattern of an internal token is free, that of an external one all 0
+pub pattern-free : (x : Bool) (f : List ℕ) → x ≡ false → patternAllowed x f ≡ true
+pattern-free x f e = rw e
+
+pub pattern-zero : (x : Bool) (f : List ℕ) {b : Bool} → x ≡ true → allZero f ≡ b → patternAllowed x f ≡ b
+pattern-zero x f e h = rw e h

@@ -32,3 +32,11 @@ headChecks n seen r =
     ∷ check 2 6 (leb n (stated r) && leb (stated r) (length r))
     ∷ check 0 9 (not seen)
     ∷ []
+
+-- the tests of a subsection's length in n bytes, its tag and its version; `seen` says that its tag stands before
+unfoldable pub subHeadChecks : ℕ → Bool → ℕ → List ℕ → List Check
+subHeadChecks m seen n r =
+    check 1 12 (leb m (stated r) && leb (stated r) n)
+    ∷ check 0 14 (not seen)
+    ∷ check 2 8 (allZero (bytesAt r 4 1))
+    ∷ []

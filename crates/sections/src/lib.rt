@@ -1,17 +1,15 @@
 // Internal: the checks of each kind of section and subsection, each test once and in order. The functions ask that the
 // bytes are there that earlier tests have shown to be there.
+pub mod information; // information.rt: section 14 and its subsections
+
 ghost use mathlib.Core.Path.{_≡_};
-ghost use mathlib.Core.Bool.{Bool};
-ghost use Prim.Native.Nat.{ℕ, _+_, _<_, _≤_};
+ghost use Prim.Native.Nat.{_+_, _≤_};
 ghost use lib.ListN.{length, drop};
-ghost use Rattle.format.specs.Parts.{information};
-ghost use Rattle.format.specs.Reading.{fieldChecks};
-ghost use Rattle.sections.specs.Refusals.{firstRefusal, headChecks};
-use fields::four;
+ghost use Rattle.sections.specs.Refusals.{firstRefusal, headChecks, subHeadChecks};
 use fields::two;
 
-// The version, the length and the kind of the section at p: the number of the refusal, or 0.
-fn section_head(s: &[u8], p: usize, least: usize, seen: bool) -> u32
+// The version, the length and the kind of the section at p, of which four bytes are there: the number of the refusal, or 0.
+pub fn section_head(s: &[u8], p: usize, least: usize, seen: bool) -> u32
     requires { ⌜ (p + 4 ≤ length (now s)) × (length (now s) ≤ 3500) ⌝ }
     ensures { λ r. ⌜ r ≡ firstRefusal (headChecks least seen (drop p (now (s .entry)))) ⌝ }
 {
@@ -31,16 +29,23 @@ fn section_head(s: &[u8], p: usize, least: usize, seen: bool) -> u32
     0
 }
 
-// The fields of the section 14 at p.
-fn information_fields(s: &[u8], p: usize) -> u32
-    requires { ⌜ (p + 10 ≤ length (now s)) × (length (now s) ≤ 3500) ⌝ }
-    ensures { λ r. ⌜ ((x : Bool) → r ≡ firstRefusal (fieldChecks x information (drop p (now (s .entry))))) ⌝ }
+// The length, the tag and the version of the subsection at q, where n bytes are left of its section and four are there.
+pub fn subsection_head(s: &[u8], q: usize, n: usize, least: usize, seen: bool) -> u32
+    requires { ⌜ (4 ≤ n) × (q + n ≤ length (now s)) × (length (now s) ≤ 3500) × (5 ≤ least) ⌝ }
+    ensures { λ r. ⌜ r ≡ firstRefusal (subHeadChecks least seen n (drop q (now (s .entry)))) ⌝ }
 {
-    if two(s, p + 4) != 0 {
-        return 10;
+    let len = two(s, q + 2);
+    if len < least {
+        return 12;
     }
-    if 1 < four(s, p + 6) {
-        return 11;
+    if n < len {
+        return 12;
+    }
+    if seen {
+        return 14;
+    }
+    if s[q + 4] != 0 {
+        return 8;
     }
     0
 }

@@ -4,10 +4,10 @@ use borrow.Author.Tests.{eq-eqb, ne-eqb, le-leb, lt-leb}
 use native.Mathlib.Omega.{arith}
 use mathlib.Core.Path.{_≡_, refl, sym, _∙_, ap}
 use borrow.Author.Needs.{needs}
-use Rattle.sections.proofs.information_fields.Statement.{statement}
-use Rattle.sections.proofs.information_fields.Tie as tie
-use Rattle.sections.proofs.information_fields.Reads as reads
-use Rattle.sections.proofs.information_fields.Lts as lts
+use Rattle.sections.proofs.information.information_fields.Statement.{statement}
+use Rattle.sections.proofs.information.information_fields.Tie as tie
+use Rattle.sections.proofs.information.information_fields.Reads as reads
+use Rattle.sections.proofs.information.information_fields.Lts as lts
 use Rattle.fields.proofs.four.Reads as four-reads
 use Rattle.fields.proofs.two.Reads as two-reads
 
