@@ -4,10 +4,11 @@ use mathlib.Core.List.{List, [], _∷_}
 use Prim.Native.Nat.{ℕ, zero, suc}
 use lib.Dec.{leb}
 use lib.ListN.{length}
-use Rattle.format.specs.Bytes.{allZero, bytesAt}
-use Rattle.format.specs.Parts.{Part}
-use Rattle.format.specs.Rules.{Check, check, Section}
-use Rattle.format.specs.Reading.{stated}
+use mathlib.Core.Option.{Option, none, some}
+use Rattle.format.specs.Bytes.{number, allZero, bytesAt}
+use Rattle.format.specs.Parts.{Kind, Part, subsectionKind}
+use Rattle.format.specs.Rules.{Check, check, Section, has}
+use Rattle.format.specs.Reading.{stated, subsectionChecks}
 use Rattle.format.specs.declared.Answer.{Answer}
 use Rattle.format.specs.declared.Answer.the-variants.{Accepted, Refused}
 
@@ -40,3 +41,15 @@ subHeadChecks m seen n r =
     ∷ check 0 14 (not seen)
     ∷ check 2 8 (allZero (bytesAt r 4 1))
     ∷ []
+
+-- the number of the first refusal of the subsection at the front of r, or 0; `before` are the section's earlier ones
+unfoldable pub subRefusal : Bool → Kind → List Part → ℕ → List ℕ → ℕ
+subRefusal x o before n r =
+    elim (leb 4 n) [
+      | false ↦ 12
+      | true ↦
+          elim (subsectionKind o (number (bytesAt r 0 2))) [
+            | none ↦ 13
+            | some k ↦ firstRefusal (subsectionChecks x k (has k before) n r)
+          ]
+    ]

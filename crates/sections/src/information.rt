@@ -3,15 +3,18 @@ ghost use mathlib.Core.Path.{_≡_};
 ghost use mathlib.Core.Bool.{Bool};
 ghost use Prim.Native.Nat.{_+_, _≤_};
 ghost use lib.ListN.{length, drop};
-ghost use Rattle.format.specs.Parts.{information, protection, dates};
-ghost use Rattle.format.specs.Reading.{fieldChecks, subsectionChecks};
-ghost use Rattle.sections.specs.Refusals.{firstRefusal};
+ghost use mathlib.Core.List.{List};
+ghost use Rattle.format.specs.Parts.{information, protection, dates, Part};
+ghost use Rattle.format.specs.Rules.{has};
+ghost use Rattle.format.specs.Reading.{fieldChecks, subsectionChecks, stated, told, sectionRest};
+ghost use Rattle.sections.specs.Refusals.{firstRefusal, subRefusal, sectionRows};
 use crate::subsection_head;
 use fields::all_zero;
 use fields::dates::date_exists;
 use fields::dates::in_order;
 use fields::four;
 use fields::two;
+use format::Answer;
 
 // The fields of the section 14 at p.
 fn information_fields(s: &[u8], p: usize) -> u32
@@ -79,4 +82,60 @@ fn dates_at(s: &[u8], q: usize, n: usize, seen: bool) -> u32
         return 19;
     }
     0
+}
+
+// The subsection at q of a section 14, where n bytes are left; the flags say which tags stand before.
+fn information_sub(
+    s: &[u8],
+    q: usize,
+    n: usize,
+    external: bool,
+    protected: bool,
+    dated: bool,
+) -> u32
+    requires { ⌜ (q + n ≤ length (now s)) × (length (now s) ≤ 3500) ⌝ }
+    ensures { λ r. ⌜ ((before : List Part) → has protection before ≡ protected → has dates before ≡ dated → r ≡ subRefusal external information before n (drop q (now (s .entry)))) ⌝ }
+{
+    if n < 4 {
+        return 12;
+    }
+    let tag = two(s, q);
+    if tag == 1 {
+        return protection_at(s, q, n, external, protected);
+    }
+    if tag == 2 {
+        return dates_at(s, q, n, dated);
+    }
+    13
+}
+
+// The subsections of the section 14 at p, which ends at e, and what it requires; the rows of the section.
+fn information_subs(s: &[u8], p: usize, e: usize, external: bool, full: bool) -> Answer
+    requires { ⌜ (p + 10 ≤ e) × (e ≤ length (now s)) × (length (now s) ≤ 3500) × (e ≡ p + stated (drop p (now s))) ⌝ }
+    ensures { λ r. ⌜ r ≡ told sectionRows (sectionRest full external information p (drop p (now (s .entry)))) ⌝ }
+{
+    let mut q = p + 10;
+    let mut n: u32 = 1;
+    let mut protected = false;
+    let mut dated = false;
+    while q < e {
+        let f = information_sub(s, q, e - q, external, protected, dated);
+        if f != 0 {
+            return Answer::Refused(f, q as u32);
+        }
+        if two(s, q) == 1 {
+            protected = true;
+        } else {
+            dated = true;
+        }
+        n += 1;
+        q += two(s, q + 2);
+    }
+    if !full {
+        return Answer::Accepted(n);
+    }
+    if !protected {
+        return Answer::Refused(20, p as u32);
+    }
+    Answer::Accepted(n)
 }
