@@ -1,5 +1,4 @@
 -- A label template, test by test, from the runs, the first and last character and the count of stars. Assumes nothing.
-use Prim.Native.Nat.{ℕ}
 use mathlib.Core.Path.{refl, sym}
 use Rattle.fields.proofs.Labels.{label-none, label-other, label-spaces, Template, label-digit, label-plain, label-many, label-first, label-last}
 use borrow.Author.Needs.{needs}

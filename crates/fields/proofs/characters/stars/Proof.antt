@@ -6,7 +6,7 @@ use lib.ListN.{getD}
 use Prim.Native.Nat.{_+_, _-_, _≤_}
 use mathlib.Core.Logic.{⊎-elim}
 use mathlib.Core.Bool.{true, false}
-use mathlib.Core.Path.{_≡_, refl, sym, _∙_}
+use mathlib.Core.Path.{_≡_, sym, _∙_}
 use Rattle.format.specs.Forms.{howMany, star}
 use Rattle.format.specs.Bytes.{bytesAt}
 use Rattle.fields.specs.Classes.{classOf}
