@@ -30,7 +30,8 @@ module _ (s : List ℕ) (i x j y : ℕ) (fits : i + x ≤ length s) (holds : j +
 
     -- the exponent is longer, and has zeros in front
     pub exponent-long : {r : Bool} → y < x → allZero (bytesAt s i (x - y)) ≡ true
-        → r ≡ ltb (number (bytesAt s (i + (x - y)) y)) (number (bytesAt s j y)) → r ≡ exponentForm (bytesAt s i x) (bytesAt s j y)
+        → r ≡ ltb (number (bytesAt s (i + (x - y)) y)) (number (bytesAt s j y))
+        → r ≡ exponentForm (bytesAt s i x) (bytesAt s j y)
     exponent-long h t r =
         let e : (x - y) + y ≡ x = omega arith in
         let z : number (bytesAt s i x) ≡ number (bytesAt s (i + (x - y)) y)
@@ -39,7 +40,8 @@ module _ (s : List ℕ) (i x j y : ℕ) (fits : i + x ≤ length s) (holds : j +
 
     -- the modulus is as long or longer, and has zeros in front
     pub exponent-short : {r : Bool} → x ≤ y → allZero (bytesAt s j (y - x)) ≡ true
-        → r ≡ ltb (number (bytesAt s i x)) (number (bytesAt s (j + (y - x)) x)) → r ≡ exponentForm (bytesAt s i x) (bytesAt s j y)
+        → r ≡ ltb (number (bytesAt s i x)) (number (bytesAt s (j + (y - x)) x))
+        → r ≡ exponentForm (bytesAt s i x) (bytesAt s j y)
     exponent-short h t r =
         let e : (y - x) + x ≡ y = omega arith in
         let z : number (bytesAt s j y) ≡ number (bytesAt s (j + (y - x)) x)
@@ -48,17 +50,23 @@ module _ (s : List ℕ) (i x j y : ℕ) (fits : i + x ≤ length s) (holds : j +
 
     module _ (small : (k : ℕ) → getD s k 0 < 256) where
       -- the exponent is longer, and has something else in front
-      pub exponent-more : y < x → allZero (bytesAt s i (x - y)) ≡ false → exponentForm (bytesAt s i x) (bytesAt s j y) ≡ false
+      pub exponent-more : y < x → allZero (bytesAt s i (x - y)) ≡ false
+          → exponentForm (bytesAt s i x) (bytesAt s j y) ≡ false
       exponent-more h t =
           let e : (x - y) + y ≡ x = omega arith in
           let m : 256 ^ y ≤ number (bytesAt s i ((x - y) + y)) = front-some s i (x - y) y (omega arith) t in
-          let z : number (bytesAt s i ((x - y) + y)) ≡ number (bytesAt s i x) = ap (λ (n : ℕ). number (bytesAt s i n)) e in
-          order-left ∙ le-ltb (number (bytesAt s i x)) (number (bytesAt s j y)) (omega (arith, below-all s small j y holds))
+          let z : number (bytesAt s i ((x - y) + y)) ≡ number (bytesAt s i x)
+          = ap (λ (n : ℕ). number (bytesAt s i n)) e in
+          order-left ∙ le-ltb (number (bytesAt s i x)) (number (bytesAt s j y))
+          (omega (arith, below-all s small j y holds))
 
       -- the modulus is longer, and has something else in front
-      pub exponent-less : x ≤ y → allZero (bytesAt s j (y - x)) ≡ false → exponentForm (bytesAt s i x) (bytesAt s j y) ≡ true
+      pub exponent-less : x ≤ y → allZero (bytesAt s j (y - x)) ≡ false
+          → exponentForm (bytesAt s i x) (bytesAt s j y) ≡ true
       exponent-less h t =
           let e : (y - x) + x ≡ y = omega arith in
           let m : 256 ^ x ≤ number (bytesAt s j ((y - x) + x)) = front-some s j (y - x) x (omega arith) t in
-          let z : number (bytesAt s j ((y - x) + x)) ≡ number (bytesAt s j y) = ap (λ (n : ℕ). number (bytesAt s j n)) e in
-          order-left ∙ lt-ltb (number (bytesAt s i x)) (number (bytesAt s j y)) (omega (arith, below-all s small i x fits))
+          let z : number (bytesAt s j ((y - x) + x)) ≡ number (bytesAt s j y)
+          = ap (λ (n : ℕ). number (bytesAt s j n)) e in
+          order-left ∙ lt-ltb (number (bytesAt s i x)) (number (bytesAt s j y))
+          (omega (arith, below-all s small i x fits))

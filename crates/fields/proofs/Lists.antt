@@ -44,7 +44,8 @@ unfolding bytesAt
 bytes-join s i n m = take-add n m (drop i s) ∙ ap (λ (l : List ℕ). take n (drop i s) ++ take m l) (drop-drop n i s)
 
 -- those behind the first k, and the first k alone
-pub bytes-drop : (s : List ℕ) (i n k : ℕ) → i + n ≤ length s → k ≤ n → drop k (bytesAt s i n) ≡ bytesAt s (i + k) (n - k)
+pub bytes-drop : (s : List ℕ) (i n k : ℕ) → i + n ≤ length s → k ≤ n
+    → drop k (bytesAt s i n) ≡ bytesAt s (i + k) (n - k)
 bytes-drop s i n k h l =
     let e : n ≡ k + (n - k) = omega arith in
     ap (λ (m : ℕ). drop k (bytesAt s i m)) e ∙ ap (drop k) (bytes-join s i k (n - k))
@@ -81,7 +82,8 @@ from-weight : (bs : List ℕ) (a : ℕ) → numberFrom a bs ≡ a * 256 ^ length
 from-weight [] a = sym (ap (λ (x : ℕ). x + 0) (mul-one a) ∙ add-zero a)
 from-weight (b ∷ bs) a =
     let w = 256 ^ length bs in
-    let m : (a * 256 + b) * w ≡ a * (256 * w) + b * w = add-mul (a * 256) b w ∙ ap (λ (x : ℕ). x + b * w) (mul-assoc a 256 w) in
+    let m : (a * 256 + b) * w ≡ a * (256 * w) + b * w = add-mul (a * 256) b w
+    ∙ ap (λ (x : ℕ). x + b * w) (mul-assoc a 256 w) in
     let p : 256 ^ suc (length bs) ≡ 256 * w = pow-succ' 256 (length bs) in
     let q : a * 256 ^ suc (length bs) ≡ a * (256 * w) = ap (λ (x : ℕ). a * x) p in
     let z : 0 * 256 + b ≡ b = omega arith in

@@ -29,14 +29,16 @@ module _ (xs ys : List ℕ) (l : length xs ≡ length ys) where
   first-less a b small h =
       let w = 256 ^ length xs in
       let m : suc a * w ≤ b * w = mul-le-mul-right w h in
-      let z : number (b ∷ ys) ≡ b * w + number ys = number-first b ys ∙ ap (λ (k : ℕ). b * 256 ^ k + number ys) (sym l) in
+      let z : number (b ∷ ys) ≡ b * w + number ys = number-first b ys
+      ∙ ap (λ (k : ℕ). b * 256 ^ k + number ys) (sym l) in
       omega (arith, m, suc-mul a w, number-first a xs, number-below xs small)
 
   -- the first bytes are the same
   first-same : (a : ℕ) → ltb (number (a ∷ xs)) (number (a ∷ ys)) ≡ ltb (number xs) (number ys)
   first-same a =
       ap (λ (k : ℕ). ltb k (number (a ∷ ys))) (number-first a xs)
-      ∙ ap (λ (k : ℕ). ltb (a * 256 ^ length xs + number xs) k) (number-first a ys ∙ ap (λ (k : ℕ). a * 256 ^ k + number ys) (sym l))
+      ∙ ap (λ (k : ℕ). ltb (a * 256 ^ length xs + number xs) k)
+      (number-first a ys ∙ ap (λ (k : ℕ). a * 256 ^ k + number ys) (sym l))
       ∙ shift (a * 256 ^ length xs) (number xs) (number ys)
 
 -- ---- from place to place
@@ -51,7 +53,8 @@ module _ (s : List ℕ) (p q e f : ℕ) where
   unfolding number
   less-done h k = rw (bytes-end s p e h, bytes-end s q f k)
 
-  module _ (small : (k : ℕ) → getD s k 0 < 256) (h : p < e) (k : e ≤ length s) (l : f ≤ length s) (m : e - p ≡ f - q) where
+  module _ (small : (k : ℕ) → getD s k 0 < 256) (h : p < e) (k : e ≤ length s) (l : f ≤ length s)
+      (m : e - p ≡ f - q) where
     -- as many are left of both
     left-same : length (behind s p e) ≡ length (behind s q f)
     left-same =
@@ -67,7 +70,8 @@ module _ (s : List ℕ) (p q e f : ℕ) where
         rw (bytes-next s p e h k, bytes-next s q f (omega arith) l) (lt-ltb _ _ g)
 
     -- the byte at q is less
-    pub more-here : getD s q 0 < getD s p 0 → ltb (number (bytesAt s p (e - p))) (number (bytesAt s q (f - q))) ≡ false
+    pub more-here : getD s q 0 < getD s p 0
+        → ltb (number (bytesAt s p (e - p))) (number (bytesAt s q (f - q))) ≡ false
     more-here d =
         let small = bytes-small s small (q + 1) (f - (q + 1)) in
         let g = first-less (behind s q f) (behind s p e) (sym left-same) (getD s q 0) (getD s p 0) small d in
@@ -75,7 +79,8 @@ module _ (s : List ℕ) (p q e f : ℕ) where
 
     -- the two are the same
     pub same-here : getD s p 0 ≡ getD s q 0
-        → ltb (number (behind s p e)) (number (behind s q f)) ≡ ltb (number (bytesAt s p (e - p))) (number (bytesAt s q (f - q)))
+        → ltb (number (behind s p e)) (number (behind s q f)) ≡ ltb (number (bytesAt s p (e - p)))
+        (number (bytesAt s q (f - q)))
     same-here d =
         rw (bytes-next s p e h k, bytes-next s q f (omega arith) l, d)
         (sym (first-same (behind s p e) (behind s q f) left-same (getD s q 0)))
@@ -86,7 +91,8 @@ module _ (s : List ℕ) (i d n : ℕ) (fits : i + d + n ≤ length s) where
   -- zeros in front change no number
   pub front-zero : allZero (bytesAt s i d) ≡ true → number (bytesAt s i (d + n)) ≡ number (bytesAt s (i + d) n)
   front-zero t =
-      let z : number (bytesAt s i d) ≡ 0 = eqb-true (number (bytesAt s i d)) 0 (sym (zero-number (bytesAt s i d)) ∙ t) in
+      let z : number (bytesAt s i d) ≡ 0
+      = eqb-true (number (bytesAt s i d)) 0 (sym (zero-number (bytesAt s i d)) ∙ t) in
       let m : number (bytesAt s i d) * 256 ^ n ≡ 0 = ap (λ (k : ℕ). k * 256 ^ n) z ∙ zero-mul (256 ^ n) in
       omega (arith, number-join s i d n fits)
 
@@ -99,8 +105,10 @@ module _ (s : List ℕ) (i d n : ℕ) (fits : i + d + n ≤ length s) where
       omega (arith, number-join s i d n fits, one-mul (256 ^ n))
 
 -- n bytes hold less
-pub below-all : (s : List ℕ) → ((k : ℕ) → getD s k 0 < 256) → (i n : ℕ) → i + n ≤ length s → number (bytesAt s i n) < 256 ^ n
+pub below-all : (s : List ℕ) → ((k : ℕ) → getD s k 0 < 256) → (i n : ℕ) → i + n ≤ length s
+    → number (bytesAt s i n) < 256 ^ n
 below-all s small i n h =
     let l : length (bytesAt s i n) ≡ n = bytes-length s i n h in
-    let b : number (bytesAt s i n) < 256 ^ length (bytesAt s i n) = number-below (bytesAt s i n) (bytes-small s small i n) in
+    let b : number (bytesAt s i n) < 256 ^ length (bytesAt s i n)
+    = number-below (bytesAt s i n) (bytes-small s small i n) in
     rw l at b

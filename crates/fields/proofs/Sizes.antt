@@ -44,11 +44,13 @@ pub odd-last : (s : List ℕ) (i n : ℕ) → 1 ≤ n → i + n ≤ length s
     → odd (number (bytesAt s i n)) ≡ eqb (getD s ((i + n) - 1) 0 % 2) 1
 odd-last s i n h l =
     let m = n - 1 in
-    let e : number (bytesAt s i (suc m)) ≡ number (bytesAt s i m) * 256 + getD s (i + m) 0 = number-more s i m (omega arith) in
+    let e : number (bytesAt s i (suc m)) ≡ number (bytesAt s i m) * 256 + getD s (i + m) 0
+    = number-more s i m (omega arith) in
     let a : suc m ≡ n = omega arith in
     let b : i + m ≡ (i + n) - 1 = omega arith in
     let c : number (bytesAt s i n) ≡ number (bytesAt s i m) * 256 + getD s ((i + n) - 1) 0
-    = ap (λ (k : ℕ). number (bytesAt s i k)) (sym a) ∙ e ∙ ap (λ (k : ℕ). number (bytesAt s i m) * 256 + getD s k 0) b in
+    = ap (λ (k : ℕ). number (bytesAt s i k)) (sym a) ∙ e
+    ∙ ap (λ (k : ℕ). number (bytesAt s i m) * 256 + getD s k 0) b in
     let d : number (bytesAt s i n) % 2 ≡ getD s ((i + n) - 1) 0 % 2 = omega arith in
     ap (λ (k : ℕ). eqb k 1) d
 
@@ -68,7 +70,8 @@ doubled m v h =
     (λ a. ap (λ (x : Bool). x && ltb v (m + m)) a
     ∙ ⊎-elim
     (λ b.
-    let q : v / m ≡ 1 = div-eq-of-lt-le m (omega (arith, leb-true m v a, one-mul m)) (omega (arith, ltb-true v (m + m) b, add-mul 1 1 m, one-mul m)) in
+    let q : v / m ≡ 1 = div-eq-of-lt-le m (omega (arith, leb-true m v a, one-mul m))
+    (omega (arith, ltb-true v (m + m) b, add-mul 1 1 m, one-mul m)) in
     absurd (eqb-false (v / m) 1 t q))
     (λ b. b ∙ sym t)
     (yes-or-no (ltb v (m + m))))
@@ -91,7 +94,8 @@ module _ (s : List ℕ) (small : (k : ℕ) → getD s k 0 < 256) (i n : ℕ) (fi
       let z : (i + n) - (i + 1) ≡ n - 1 = omega arith in
       let l : length rest ≡ n - 1 = bytes-length s (i + 1) ((i + n) - (i + 1)) (omega arith) ∙ z in
       let w : 256 ^ length rest ≡ 2 ^ (8 * (n - 1)) = ap (λ (k : ℕ). 256 ^ k) l ∙ bytes-bits (n - 1) in
-      let e : bytesAt s i n ≡ getD s i 0 ∷ rest = sym (bytes-start s i n) ∙ bytes-next s i (i + n) (omega arith) fits in
+      let e : bytesAt s i n ≡ getD s i 0 ∷ rest = sym (bytes-start s i n)
+      ∙ bytes-next s i (i + n) (omega arith) fits in
       let b : number rest < 256 ^ length rest = number-below rest (bytes-small s small (i + 1) ((i + n) - (i + 1))) in
       ap (λ (bs : List ℕ). number bs / 2 ^ (8 * (n - 1))) e
       ∙ ap (λ (k : ℕ). k / 2 ^ (8 * (n - 1))) (number-first (getD s i 0) rest)
@@ -108,8 +112,10 @@ module _ (s : List ℕ) (small : (k : ℕ) → getD s k 0 < 256) (i n : ℕ) (fi
       let b : suc (bits - 1) ≡ bits = omega arith in
       let p : 2 ^ bits ≡ 2 ^ (bits - 1) + 2 ^ (bits - 1) = ap (λ (x : ℕ). 2 ^ x) (sym b) ∙ two-pow-succ (bits - 1) in
       let q : v / 2 ^ (bits - 1) ≡ getD s i 0 / 2 ^ k
-      = ap (λ (x : ℕ). v / 2 ^ x) (sym a) ∙ sym (shr-shr v (8 * (n - 1)) k) ∙ ap (λ (x : ℕ). x / 2 ^ k) (first-byte (omega arith)) in
-      ap (λ (x : ℕ). leb (2 ^ (bits - 1)) v && ltb v x) p ∙ doubled (2 ^ (bits - 1)) v (pow-pos (bits - 1)) ∙ ap (λ (x : ℕ). eqb x 1) q
+      = ap (λ (x : ℕ). v / 2 ^ x) (sym a) ∙ sym (shr-shr v (8 * (n - 1)) k)
+      ∙ ap (λ (x : ℕ). x / 2 ^ k) (first-byte (omega arith)) in
+      ap (λ (x : ℕ). leb (2 ^ (bits - 1)) v && ltb v x) p ∙ doubled (2 ^ (bits - 1)) v (pow-pos (bits - 1))
+      ∙ ap (λ (x : ℕ). eqb x 1) q
 
   -- the modulus, by its first and its last byte
   module _ (bits : ℕ) (h : 1 ≤ bits) (e : n ≡ (bits + 7) / 8) where

@@ -38,7 +38,8 @@ returns-2 c =
     let c₀ = c .before .before .before .before .before .before .before in
     let a = c₀ .args in
     let r = c₀ .pre in
-    exponent-long (a .s .now) (a .i) (a .x) (a .j) (a .y) (r .0) (r .1 .0) (r .1 .1) (c .before .before .before .before .if1 .left) (c .before .before .before .if2 .taken)
+    exponent-long (a .s .now) (a .i) (a .x) (a .j) (a .y) (r .0) (r .1 .0) (r .1 .1)
+    (c .before .before .before .before .if1 .left) (c .before .before .before .if2 .taken)
     (sym (c .before .before .all-zero .ensures) ∙ c .before .if3 .taken) (c .less .ensures)
 
 returns-3 : tie.Need-returns-3
@@ -46,7 +47,10 @@ returns-3 c =
     let c₀ = c .before .before .before .before .before .before in
     let a = c₀ .args in
     let r = c₀ .pre in
-    sym (exponent-more (a .s .now) (a .i) (a .x) (a .j) (a .y) (r .0) (r .1 .0) (r .1 .1) (c .before .before .before .if1 .left) (λ k. (c .before .before .before .before .before .shared-slice-known .given k) .fits) (c .before .before .if2 .taken) (sym (c .before .all-zero .ensures) ∙ c .if3 .left))
+    sym (exponent-more (a .s .now) (a .i) (a .x) (a .j) (a .y) (r .0) (r .1 .0) (r .1 .1)
+    (c .before .before .before .if1 .left)
+    (λ k. (c .before .before .before .before .before .shared-slice-known .given k) .fits)
+    (c .before .before .if2 .taken) (sym (c .before .all-zero .ensures) ∙ c .if3 .left))
 
 all-zero-requires-2 : tie.Need-all-zero-requires-2
 all-zero-requires-2 c κs = search needs
@@ -62,7 +66,8 @@ returns-4 c =
     let c₀ = c .before .before .before .before .before .before .before in
     let a = c₀ .args in
     let r = c₀ .pre in
-    exponent-short (a .s .now) (a .i) (a .x) (a .j) (a .y) (r .0) (r .1 .0) (r .1 .1) (c .before .before .before .before .if1 .left) (c .before .before .before .if2 .left)
+    exponent-short (a .s .now) (a .i) (a .x) (a .j) (a .y) (r .0) (r .1 .0) (r .1 .1)
+    (c .before .before .before .before .if1 .left) (c .before .before .before .if2 .left)
     (sym (c .before .before .all-zero2 .ensures) ∙ c .before .if4 .taken) (c .less2 .ensures)
 
 returns-5 : tie.Need-returns-5
@@ -70,7 +75,10 @@ returns-5 c =
     let c₀ = c .before .before .before .before .before .before in
     let a = c₀ .args in
     let r = c₀ .pre in
-    sym (exponent-less (a .s .now) (a .i) (a .x) (a .j) (a .y) (r .0) (r .1 .0) (r .1 .1) (c .before .before .before .if1 .left) (λ k. (c .before .before .before .before .before .shared-slice-known .given k) .fits) (c .before .before .if2 .left) (sym (c .before .all-zero2 .ensures) ∙ c .if4 .left))
+    sym (exponent-less (a .s .now) (a .i) (a .x) (a .j) (a .y) (r .0) (r .1 .0) (r .1 .1)
+    (c .before .before .before .if1 .left)
+    (λ k. (c .before .before .before .before .before .shared-slice-known .given k) .fits)
+    (c .before .before .if2 .left) (sym (c .before .all-zero2 .ensures) ∙ c .if4 .left))
 
 pub exponent-form-spec : {M : Type 1} → statement M
 exponent-form-spec =

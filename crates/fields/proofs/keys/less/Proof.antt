@@ -15,9 +15,9 @@ use Rattle.fields.proofs.keys.less.Tie as tie
 abbrev Inv-loop : tie.InvT-loop
 Inv-loop s i j n e p₀ q₀ p q =
     (p ≤ e)
-    × ((q + i ≡ p + j)
+    × (q + i ≡ p + j)
     × (ltb (number (bytesAt s p (e - p))) (number (bytesAt s q ((j + n) - q)))
-    ≡ ltb (number (bytesAt s i n)) (number (bytesAt s j n))))
+    ≡ ltb (number (bytesAt s i n)) (number (bytesAt s j n)))
 
 abbrev μ-loop : tie.MeasureT-loop
 μ-loop s i j n e p₀ q₀ p q = e - p
@@ -30,11 +30,10 @@ loop-holds c =
     let a = c .args in
     let s = a .s .now in (
       search needs,
-      (
-        search needs,
-        ap (λ (bs : List ℕ). ltb (number bs) (number (bytesAt s (a .j) ((a .j + a .n) - a .j)))) (bytes-start s (a .i) (a .n))
-            ∙ ap (λ (bs : List ℕ). ltb (number (bytesAt s (a .i) (a .n))) (number bs)) (bytes-start s (a .j) (a .n)),
-      ),
+      search needs,
+      ap (λ (bs : List ℕ). ltb (number bs) (number (bytesAt s (a .j) ((a .j + a .n) - a .j))))
+          (bytes-start s (a .i) (a .n))
+          ∙ ap (λ (bs : List ℕ). ltb (number (bytesAt s (a .i) (a .n))) (number bs)) (bytes-start s (a .j) (a .n)),
     )
 
 shared-slice-read-a : tie.Need-shared-slice-read-a Inv-loop μ-loop
@@ -51,7 +50,8 @@ returns c =
     let e = a .i + a .n in
     let f = a .j + a .n in
     let small : (k : ℕ) → getD s k 0 < 256 = λ k. (c .before .before .shared-slice-known .given k) .fits in
-    sym (less-here s (l .p) (l .q) e f small (c .before .before .before .loop-test .taken) (omega arith) (omega arith) (omega arith) (c .if1 .taken)) ∙ l .inv .1 .1
+    sym (less-here s (l .p) (l .q) e f small (c .before .before .before .loop-test .taken) (omega arith) (omega arith)
+    (omega arith) (c .if1 .taken)) ∙ l .inv .2
 
 returns-2 : tie.Need-returns-2 Inv-loop μ-loop
 returns-2 c =
@@ -61,7 +61,8 @@ returns-2 c =
     let e = a .i + a .n in
     let f = a .j + a .n in
     let small : (k : ℕ) → getD s k 0 < 256 = λ k. (c .before .before .before .shared-slice-known .given k) .fits in
-    sym (more-here s (l .p) (l .q) e f small (c .before .before .before .before .loop-test .taken) (omega arith) (omega arith) (omega arith) (c .if2 .taken)) ∙ l .inv .1 .1
+    sym (more-here s (l .p) (l .q) e f small (c .before .before .before .before .loop-test .taken) (omega arith)
+    (omega arith) (omega arith) (c .if2 .taken)) ∙ l .inv .2
 
 add-p : tie.Need-add-p Inv-loop μ-loop
 add-p c = search needs
@@ -79,14 +80,20 @@ loop-again c =
     let s = a .s .now in
     let e = a .i + a .n in
     let f = a .j + a .n in
-    let small : (k : ℕ) → getD s k 0 < 256 = λ k. (c .before .before .before .shared-slice-known .given k) .fits in
-    (search needs, (search needs, same-here s (l .p) (l .q) e f small (c .before .before .before .before .loop-test .taken) (omega arith) (omega arith) (omega arith) (omega arith) ∙ l .inv .1 .1))
+    let small : (k : ℕ) → getD s k 0 < 256 = λ k. (c .before .before .before .shared-slice-known .given k) .fits in (
+      search needs,
+      search needs,
+      same-here s (l .p) (l .q) e f small
+          (c .before .before .before .before .loop-test .taken) (omega arith) (omega arith) (omega arith) (omega arith)
+          ∙ l .inv .2,
+    )
 
 returns-3 : tie.Need-returns-3 Inv-loop μ-loop
 returns-3 c =
     let a = c .before .before .args in
     let l = c .before .loop in
-    sym (less-done (a .s .now) (l .p) (l .q) (a .i + a .n) (a .j + a .n) (c .loop-test .left) (omega arith)) ∙ l .inv .1 .1
+    sym (less-done (a .s .now) (l .p) (l .q) (a .i + a .n) (a .j + a .n) (c .loop-test .left) (omega arith))
+    ∙ l .inv .2
 
 pub less-spec : {M : Type 1} → statement M
 less-spec =

@@ -22,7 +22,8 @@ returns : tie.Need-returns
 returns c =
     let a = c .before .before in
     sym
-    (modulus-not (a .args .s .now) (λ k. (c .before .shared-slice-known .given k) .fits) (a .args .i) (a .args .n) (a .pre .0) (a .args .bits) (omega arith) (a .pre .1 .1 .1)
+    (modulus-not (a .args .s .now) (λ k. (c .before .shared-slice-known .given k) .fits) (a .args .i) (a .args .n)
+    (a .pre .0) (a .args .bits) (omega arith) (a .pre .1 .1 .1)
     (c .if1 .taken))
 
 add-result : tie.Need-add-result
@@ -38,7 +39,8 @@ returns-2 : tie.Need-returns-2
 returns-2 c =
     let a = c .before .before .before in
     sym
-    (modulus-last (a .args .s .now) (λ k. (c .before .before .shared-slice-known .given k) .fits) (a .args .i) (a .args .n) (a .pre .0) (a .args .bits) (omega arith) (a .pre .1 .1 .1)
+    (modulus-last (a .args .s .now) (λ k. (c .before .before .shared-slice-known .given k) .fits) (a .args .i)
+    (a .args .n) (a .pre .0) (a .args .bits) (omega arith) (a .pre .1 .1 .1)
     (c .before .if1 .left))
 
 pub modulus-form-spec : {M : Type 1} → statement M
