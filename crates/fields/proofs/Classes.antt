@@ -1,9 +1,9 @@
 -- The classes of characters, against the characters of the format. Assumes nothing.
 use mathlib.Core.Path.{_≡_, refl, sym, ap, _∙_}
-use mathlib.Core.Bool.{Bool, true, false, _&&_, _||_, and-false, or-true, true≢false}
+use mathlib.Core.Bool.{Bool, true, false, _||_, and-false, or-true, true≢false}
 use mathlib.Core.Logic.{_⊎_, inl, inr, ⊎-elim}
 use native.Mathlib.Nat.{eq-or-lt-of-le}
-use Prim.Native.Nat.{ℕ, zero, suc, _+_, _-_, _<_, _≤_}
+use Prim.Native.Nat.{ℕ, _-_, _<_, _≤_}
 use native.Mathlib.Omega.{arith}
 use lib.Dec.{eqb, leb, ltb}
 use borrow.Author.Tests.{eq-eqb, ne-eqb, le-leb, lt-leb, leb-true, leb-false, ltb-true, ltb-false, eqb-true}
@@ -105,7 +105,8 @@ unfolding ofClass classOf
 rule-class b = rule-cases (letter b) (digit b) (ruleSign b) (labelSign b) (star b) (space b)
 
 -- what a label template may have: no hyphen and no underscore
-label-cases : (l d g t p : Bool) → (l || d || g || t) ≡ between 1 4 (pick l 1 (pick d 2 (pick g 3 (pick t 4 (pick p 5 6)))))
+label-cases : (l d g t p : Bool)
+    → (l || d || g || t) ≡ between 1 4 (pick l 1 (pick d 2 (pick g 3 (pick t 4 (pick p 5 6)))))
 unfolding pick
 label-cases true d g t p = refl
 label-cases false true g t p = refl
@@ -117,14 +118,17 @@ label-cases false false false false false = refl
 -- a sign of Rule IDs is one of two characters
 rule-signs : (b : ℕ) → ruleSign b ≡ true → (b ≡ 45) ⊎ (b ≡ 95)
 rule-signs b e =
-    ⊎-elim (λ t. inl (eqb-true b 45 t)) (λ t. inr (eqb-true b 95 (sym (ap (λ (x : Bool). x || eqb b 95) t) ∙ e))) (yes-or-no (eqb b 45))
+    ⊎-elim (λ t. inl (eqb-true b 45 t)) (λ t. inr (eqb-true b 95 (sym (ap (λ (x : Bool). x || eqb b 95) t) ∙ e)))
+    (yes-or-no (eqb b 45))
 
 pub label-class : (b : ℕ) → inLabel b ≡ ofClass 1 4 b
 unfolding ofClass classOf pick
 label-class b =
     ⊎-elim (λ e. ⊎-elim (λ (n : b ≡ 45). rw n) (λ (n : b ≡ 95). rw n) (rule-signs b e))
     (λ e. label-cases (letter b) (digit b) (labelSign b) (star b) (space b)
-    ∙ ap (λ (r : Bool). between 1 4 (pick (letter b) 1 (pick (digit b) 2 (pick r 0 (pick (labelSign b) 3 (pick (star b) 4 (pick (space b) 5 6))))))) (sym e))
+    ∙ ap (λ (r : Bool). between 1 4
+    (pick (letter b) 1 (pick (digit b) 2 (pick r 0 (pick (labelSign b) 3 (pick (star b) 4 (pick (space b) 5 6)))))))
+    (sym e))
     (yes-or-no (ruleSign b))
 
 -- a test of classes that fails at a class, and at those that later tests give
@@ -148,7 +152,8 @@ space-class b =
     (λ e. e ∙ sym
     (fails f 1 _ (letter b) refl
     (fails f 2 _ (digit b) refl
-    (fails f 0 _ (ruleSign b) refl (fails f 3 _ (labelSign b) refl (fails f 4 _ (star b) refl (unmet f 5 6 (space b) e refl)))))))
+    (fails f 0 _ (ruleSign b) refl (fails f 3 _ (labelSign b) refl
+    (fails f 4 _ (star b) refl (unmet f 5 6 (space b) e refl)))))))
     (yes-or-no (space b))
 
 pub star-class : (b : ℕ) → star b ≡ eqb (classOf b) 4
@@ -159,14 +164,17 @@ star-class b =
     (λ e. e ∙ sym
     (fails f 1 _ (letter b) refl
     (fails f 2 _ (digit b) refl
-    (fails f 0 _ (ruleSign b) refl (fails f 3 _ (labelSign b) refl (unmet f 4 _ (star b) e (fails f 5 6 (space b) refl refl)))))))
+    (fails f 0 _ (ruleSign b) refl (fails f 3 _ (labelSign b) refl
+    (unmet f 4 _ (star b) e (fails f 5 6 (space b) refl refl)))))))
     (yes-or-no (star b))
 
 -- no sign has the class of a digit
-sign-class : (b : ℕ) → eqb (pick (ruleSign b) 0 (pick (labelSign b) 3 (pick (star b) 4 (pick (space b) 5 6)))) 2 ≡ false
+sign-class : (b : ℕ) → eqb (pick (ruleSign b) 0
+    (pick (labelSign b) 3 (pick (star b) 4 (pick (space b) 5 6)))) 2 ≡ false
 sign-class b =
     let f : ℕ → Bool = λ k. eqb k 2 in
-    fails f 0 _ (ruleSign b) refl (fails f 3 _ (labelSign b) refl (fails f 4 _ (star b) refl (fails f 5 6 (space b) refl refl)))
+    fails f 0 _ (ruleSign b) refl (fails f 3 _ (labelSign b) refl
+    (fails f 4 _ (star b) refl (fails f 5 6 (space b) refl refl)))
 
 -- a digit stands below the letters
 pub digit-class : (b : ℕ) → digit b ≡ eqb (classOf b) 2

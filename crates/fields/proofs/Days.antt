@@ -1,5 +1,5 @@
 -- The date in four bytes, by its year, month and day. Assumes nothing.
-use mathlib.Core.Path.{_≡_, refl, sym, ap, _∙_}
+use mathlib.Core.Path.{_≡_, sym, ap, _∙_}
 use mathlib.Core.Bool.{Bool, true, false, _&&_}
 use mathlib.Core.List.{List}
 use Prim.Native.Nat.{ℕ, _+_, _<_, _≤_}
@@ -7,7 +7,7 @@ use native.Mathlib.Omega.{arith}
 use mathlib.Core.Logic.{_⊎_, inl, inr}
 use lib.Dec.{leb}
 use borrow.Author.Tests.{ne-eqb, le-leb, lt-leb}
-use lib.ListN.{length, getD, take}
+use lib.ListN.{getD, take}
 use Rattle.format.specs.Bytes.{number, bytesAt}
 use Rattle.format.specs.Forms.{between, leapYear, daysIn, dateExists}
 use Rattle.fields.proofs.Lists.{bytes-take, bytes-get}

@@ -1,5 +1,5 @@
 -- The form of a label template, from what the code finds out one after the other. Assumes nothing.
-use mathlib.Core.Path.{_≡_, refl, sym, ap, _∙_}
+use mathlib.Core.Path.{_≡_, sym, ap, _∙_}
 use mathlib.Core.Bool.{Bool, true, false, not, _&&_, _||_}
 use mathlib.Core.List.{List}
 use Prim.Native.Nat.{ℕ, _+_, _-_, _<_, _≤_}
@@ -61,7 +61,8 @@ module _ {s : List ℕ} {i p first n : ℕ} (t : Template s i p first) (m : n �
       let u : star (getD bs 0 0) ≡ eqb first 4
       = ap star x ∙ star-class (getD s i 0) ∙ ap (λ (k : ℕ). eqb k 4) (sym (t .class)) in
       let k : howMany star (take (leading inLabel bs) bs) ≡ n
-      = ap (λ (j : ℕ). howMany star (take j bs)) c ∙ ap (howMany star) (bytes-take s i 64 (p - i) (omega arith)) ∙ sym m in
+      = ap (λ (j : ℕ). howMany star (take j bs)) c ∙ ap (howMany star) (bytes-take s i 64 (p - i) (omega arith))
+      ∙ sym m in
       let y : i + (p - i - 1) ≡ p - 1 = omega arith in
       let v : star (getD bs (leading inLabel bs - 1) 0) ≡ star (getD s (p - 1) 0)
       = ap (λ (j : ℕ). star (getD bs (j - 1) 0)) c
@@ -95,4 +96,5 @@ module _ {s : List ℕ} {i p first n : ℕ} (t : Template s i p first) (m : n �
     pub label-last : {last : ℕ} → n ≡ 1 → (first ≡ 4 → ⊥) → last ≡ classOf (getD s (p - 1) 0)
         → eqb last 4 ≡ labelForm (bytesAt s i 64)
     label-last {last} o u v =
-        ap (λ (k : ℕ). eqb k 4) v ∙ sym (label-told ∙ rw (ne-eqb first 2 h, o, ne-eqb first 4 u) (star-class (getD s (p - 1) 0)))
+        ap (λ (k : ℕ). eqb k 4) v ∙ sym
+        (label-told ∙ rw (ne-eqb first 2 h, o, ne-eqb first 4 u) (star-class (getD s (p - 1) 0)))

@@ -1,6 +1,9 @@
 pub mod Classes
 pub mod Days
+pub mod Exponents
 pub mod Labels
 pub mod Lists
 pub mod Numbers
+pub mod Order
 pub mod Runs
+pub mod Sizes

@@ -2,14 +2,14 @@
 use mathlib.Core.Path.{_≡_, refl, sym, ap, _∙_}
 use mathlib.Core.List.{List, [], _∷_, _++_}
 use Prim.Native.Nat.{ℕ, zero, suc, _+_, _-_, _*_, _^_, _<_, _≤_}
-use native.Mathlib.Nat.{add-zero, mul-one, suc-mul, mul-assoc, add-mul, mul-le-mul-right, pow-succ', add-sub-cancel-left, sub-eq-zero-of-le}
+use native.Mathlib.Nat.{add-zero, mul-one, suc-mul, mul-assoc, add-mul, mul-le-mul-right, pow-succ', le-refl, le-trans, add-sub-cancel-left, sub-eq-zero-of-le}
 use native.Mathlib.Numerals.{add-one}
 use native.Mathlib.Omega.{arith}
 use lib.ListN.{length, getD, take, drop, length-drop}
 use lib.Seq.{drop-cons, length-take-le, take-add, take-take, drop-drop, drop-at, getD-take, getD-drop}
 use lib.Dec.{eqb}
 use lib.Bits.{bitOr, or-zero-l, or-add-and, and-le-r}
-use mathlib.Core.Bool.{Bool, true, false, _&&_, and-assoc}
+use mathlib.Core.Bool.{Bool, _&&_, and-assoc}
 use borrow.Author.Tests.{ne-eqb}
 use Rattle.format.specs.Bytes.{Bytes, numberFrom, number, bytesAt, allZero}
 
@@ -44,7 +44,8 @@ unfolding bytesAt
 bytes-join s i n m = take-add n m (drop i s) ∙ ap (λ (l : List ℕ). take n (drop i s) ++ take m l) (drop-drop n i s)
 
 -- those behind the first k, and the first k alone
-pub bytes-drop : (s : List ℕ) (i n k : ℕ) → i + n ≤ length s → k ≤ n → drop k (bytesAt s i n) ≡ bytesAt s (i + k) (n - k)
+pub bytes-drop : (s : List ℕ) (i n k : ℕ) → i + n ≤ length s → k ≤ n
+    → drop k (bytesAt s i n) ≡ bytesAt s (i + k) (n - k)
 bytes-drop s i n k h l =
     let e : n ≡ k + (n - k) = omega arith in
     ap (λ (m : ℕ). drop k (bytesAt s i m)) e ∙ ap (drop k) (bytes-join s i k (n - k))
@@ -81,7 +82,8 @@ from-weight : (bs : List ℕ) (a : ℕ) → numberFrom a bs ≡ a * 256 ^ length
 from-weight [] a = sym (ap (λ (x : ℕ). x + 0) (mul-one a) ∙ add-zero a)
 from-weight (b ∷ bs) a =
     let w = 256 ^ length bs in
-    let m : (a * 256 + b) * w ≡ a * (256 * w) + b * w = add-mul (a * 256) b w ∙ ap (λ (x : ℕ). x + b * w) (mul-assoc a 256 w) in
+    let m : (a * 256 + b) * w ≡ a * (256 * w) + b * w = add-mul (a * 256) b w
+    ∙ ap (λ (x : ℕ). x + b * w) (mul-assoc a 256 w) in
     let p : 256 ^ suc (length bs) ≡ 256 * w = pow-succ' 256 (length bs) in
     let q : a * 256 ^ suc (length bs) ≡ a * (256 * w) = ap (λ (x : ℕ). a * x) p in
     let z : 0 * 256 + b ≡ b = omega arith in
@@ -118,3 +120,17 @@ pub number-join : (s : List ℕ) (i n m : ℕ) → i + n + m ≤ length s
     → number (bytesAt s i (n + m)) ≡ number (bytesAt s i n) * 256 ^ m + number (bytesAt s (i + n) m)
 number-join s i n m h =
     rw (bytes-join s i n m, number-append (bytesAt s i n) (bytesAt s (i + n) m), bytes-length s (i + n) m h)
+
+-- bytes are all 0 exactly when their number is
+from-above : (bs : List ℕ) (a : ℕ) → a ≤ numberFrom a bs
+from-above [] a = le-refl a
+from-above (b ∷ bs) a = le-trans (omega arith) (from-above bs (a * 256 + b))
+
+pub zero-number : (bs : List ℕ) → allZero bs ≡ eqb (number bs) 0
+unfolding allZero number
+zero-number [] = refl
+zero-number (zero ∷ bs) = zero-number bs
+zero-number (suc b ∷ bs) =
+    let h : 0 * 256 + suc b ≤ numberFrom (0 * 256 + suc b) bs = from-above bs (0 * 256 + suc b) in
+    ap (λ (x : Bool). x && allZero bs) (ne-eqb (suc b) 0 (λ e. omega arith))
+    ∙ sym (ne-eqb (numberFrom (0 * 256 + suc b) bs) 0 (λ e. omega arith))

@@ -1,7 +1,7 @@
 -- The number in n bytes at a place, byte by byte. Assumes nothing.
-use mathlib.Core.Path.{_≡_, refl, sym, ap, _∙_}
+use mathlib.Core.Path.{_≡_, refl, ap, _∙_}
 use mathlib.Core.List.{List, [], _∷_, _++_}
-use Prim.Native.Nat.{ℕ, zero, suc, _+_, _*_, _<_, _≤_}
+use Prim.Native.Nat.{ℕ, suc, _+_, _*_, _<_, _≤_}
 use native.Mathlib.Nat.{add-zero}
 use native.Mathlib.Omega.{arith}
 use lib.ListN.{length, getD, take, drop, length-drop}
@@ -29,7 +29,8 @@ number-more s i n h =
     ∙ ap (λ (x : ℕ). numberFrom 0 (take n (drop i s)) * 256 + x) (getD-drop i s n 0)
 
 -- two bytes
-pub number-two : (s : List ℕ) (i : ℕ) → i + 2 ≤ length s → number (bytesAt s i 2) ≡ getD s i 0 * 256 + getD s (i + 1) 0
+pub number-two : (s : List ℕ) (i : ℕ) → i + 2 ≤ length s
+    → number (bytesAt s i 2) ≡ getD s i 0 * 256 + getD s (i + 1) 0
 number-two s i h =
     let h₀ : i + 0 < length s = omega arith in
     let h₁ : i + 1 < length s = omega arith in
@@ -39,7 +40,8 @@ number-two s i h =
 
 -- four bytes
 pub number-four : (s : List ℕ) (i : ℕ) → i + 4 ≤ length s
-    → number (bytesAt s i 4) ≡ ((getD s i 0 * 256 + getD s (i + 1) 0) * 256 + getD s (i + 2) 0) * 256 + getD s (i + 3) 0
+    → number (bytesAt s i 4) ≡ ((getD s i 0 * 256 + getD s (i + 1) 0) * 256 + getD s (i + 2) 0) * 256 + getD s
+    (i + 3) 0
 number-four s i h =
     let h₂ : i + 2 < length s = omega arith in
     let h₃ : i + 3 < length s = omega arith in

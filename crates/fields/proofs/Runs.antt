@@ -1,14 +1,14 @@
 -- Runs of bytes that pass a test, from a place on. Assumes nothing.
 use mathlib.Core.Path.{_≡_, refl, sym, ap, _∙_}
 use mathlib.Core.Bool.{Bool, true, false, _&&_}
-use mathlib.Core.List.{List, [], _∷_, _++_}
-use Prim.Native.Nat.{ℕ, zero, suc, _+_, _-_, _<_, _≤_}
+use mathlib.Core.List.{List, [], _∷_}
+use Prim.Native.Nat.{ℕ, suc, _+_, _-_, _<_, _≤_}
 use native.Mathlib.Nat.{add-zero, eq-zero-or-pos}
 use native.Mathlib.Omega.{arith}
 use lib.Dec.{eqb, leb, eqb·suc-suc, eqb·zero-suc}
 use borrow.Author.Tests.{eq-eqb, ne-eqb, eqb-true, eqb-false, le-leb}
 use mathlib.Core.Logic.{⊎-elim}
-use lib.ListN.{length, getD, take, drop}
+use lib.ListN.{length, getD, drop}
 use Rattle.format.specs.Bytes.{bytesAt}
 use Rattle.format.specs.Forms.{every, leading, howMany, space, padded}
 use Rattle.fields.specs.Classes.{ofClass}
@@ -102,7 +102,8 @@ pub spaces-run : (s : List ℕ) (p e : ℕ) {q : ℕ} → p ≤ e → e ≤ leng
     → q ≡ p + leading (ofClass 5 5) (bytesAt s p (e - p)) → every space (bytesAt s p (e - p)) ≡ eqb q e
 spaces-run s p e {q} h l r =
     let m = leading (ofClass 5 5) (bytesAt s p (e - p)) in
-    let z : leading space (bytesAt s p (e - p)) ≡ m = leading-same space (ofClass 5 5) space-class (bytesAt s p (e - p)) in
+    let z : leading space (bytesAt s p (e - p)) ≡ m
+    = leading-same space (ofClass 5 5) space-class (bytesAt s p (e - p)) in
     let n : length (bytesAt s p (e - p)) ≡ e - p = bytes-length s p (e - p) (omega arith) in
     every-leading space (bytesAt s p (e - p)) ∙ ap (λ (x : ℕ). eqb x (length (bytesAt s p (e - p)))) z
     ∙ ap (eqb m) n
@@ -111,13 +112,15 @@ spaces-run s p e {q} h l r =
     (yes-or-no (eqb m (e - p)))
 
 -- f is the test of the classes lo to hi, and the run of those from i on ends at p
-module _ (f : ℕ → Bool) (lo hi : ℕ) (same : (b : ℕ) → f b ≡ ofClass lo hi b) (s : List ℕ) (i n : ℕ) (fits : i + n ≤ length s)
+module _ (f : ℕ → Bool) (lo hi : ℕ) (same : (b : ℕ) → f b ≡ ofClass lo hi b) (s : List ℕ) (i n : ℕ)
+    (fits : i + n ≤ length s)
     {p : ℕ} (run : p ≡ i + leading (ofClass lo hi) (bytesAt s i ((i + n) - i))) where
   -- how many stand in front
   pub run-count : leading f (bytesAt s i n) ≡ p - i
   run-count =
       let z : leading f (bytesAt s i n) ≡ leading (ofClass lo hi) (bytesAt s i ((i + n) - i))
-      = leading-same f (ofClass lo hi) same (bytesAt s i n) ∙ ap (leading (ofClass lo hi)) (sym (bytes-start s i n)) in
+      = leading-same f (ofClass lo hi) same (bytesAt s i n)
+      ∙ ap (leading (ofClass lo hi)) (sym (bytes-start s i n)) in
       omega arith
 
   -- none
@@ -130,7 +133,8 @@ module _ (f : ℕ → Bool) (lo hi : ℕ) (same : (b : ℕ) → f b ≡ ofClass 
   pub padded-run : {q : ℕ} → (p ≡ i → ⊥) → p ≤ i + n → q ≡ p + leading (ofClass 5 5) (bytesAt s p ((i + n) - p))
       → padded f (bytesAt s i n) ≡ eqb q (i + n)
   padded-run {q} e l r =
-      let h : 1 ≤ p - i = ⊎-elim (λ (z : p - i ≡ 0). absurd (e (omega arith))) (λ (z : 0 < p - i). z) (eq-zero-or-pos (p - i)) in
+      let h : 1 ≤ p - i = ⊎-elim (λ (z : p - i ≡ 0). absurd (e (omega arith))) (λ (z : 0 < p - i). z)
+      (eq-zero-or-pos (p - i)) in
       let a : i + (p - i) ≡ p = omega arith in
       let b : n - (p - i) ≡ (i + n) - p = omega arith in
       ap (λ (k : ℕ). leb 1 k && every space (drop k (bytesAt s i n))) run-count

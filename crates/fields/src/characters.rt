@@ -25,13 +25,13 @@ const OTHER: u8 = 6;
 pub fn character(b: u8) -> u8
     ensures { λ r. ⌜ r ≡ classOf b ⌝ }
 {
-    if 97 <= b && b <= 122 {
+    if b'a' <= b && b <= b'z' {
         return LETTER;
     }
-    if 65 <= b && b <= 90 {
+    if b'A' <= b && b <= b'Z' {
         return LETTER;
     }
-    if 48 <= b && b <= 57 {
+    if b'0' <= b && b <= b'9' {
         return DIGIT;
     }
     match b {

@@ -9,12 +9,14 @@ ghost use Prim.Native.Nat.{_+_, _<_, _≤_};
 ghost use lib.ListN.{length};
 ghost use Rattle.format.specs.Bytes.{number, bytesAt, allZero};
 
+// A byte as a number as wide as a place.
 pub fn wide(x: u8) -> usize
     ensures { λ r. ⌜ (r ≡ x) × (r < 256) ⌝ }
 {
     x as usize
 }
 
+// A byte as a number of 32 bits.
 pub fn wide32(x: u8) -> u32
     ensures { λ r. ⌜ (r ≡ x) × (r < 256) ⌝ }
 {
@@ -45,7 +47,7 @@ pub fn eight(s: &[u8], i: usize) -> u64
     four(s, i) as u64 * 4294967296 + four(s, i + 4) as u64
 }
 
-// The n bytes at i are all 0.
+// The n bytes at i are all 0: their bits are gathered, with no branch inside the loop.
 pub fn all_zero(s: &[u8], i: usize, n: usize) -> bool
     requires { ⌜ i + n ≤ length (now s) ⌝ }
     ensures { λ r. ⌜ r ≡ allZero (bytesAt (now (s .entry)) i n) ⌝ }

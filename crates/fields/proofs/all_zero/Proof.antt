@@ -1,7 +1,7 @@
 -- `all_zero` gathers the bits of all bytes, which are 0 exactly when every byte is. Assumes nothing.
 use native.Mathlib.Omega.{arith}
 use borrow.Author.Needs.{needs}
-use lib.ListN.{length, getD}
+use lib.ListN.{getD}
 use lib.Dec.{eqb}
 use Prim.Native.Nat.{ℕ, _+_, _-_, _≤_}
 use mathlib.Core.Path.{_≡_, sym, ap, _∙_}
@@ -43,7 +43,8 @@ loop-again c =
     let e = a .args .i + a .args .n in (
       search needs,
       zero-next (l .bits) (getD s (l .p) 0) (bytesAt s (l .p + 1) (e - (l .p + 1)))
-          ∙ ap (λ (bs : List ℕ). eqb (l .bits) 0 && allZero bs) (sym (bytes-next s (l .p) e (c .before .loop-test .taken) (omega arith)))
+          ∙ ap (λ (bs : List ℕ). eqb (l .bits) 0 && allZero bs)
+          (sym (bytes-next s (l .p) e (c .before .loop-test .taken) (omega arith)))
           ∙ l .inv .1,
     )
 
@@ -54,7 +55,8 @@ returns c =
     let l = c .before .loop in
     let s = a .args .s .now in
     let e = a .args .i + a .args .n in
-    sym (ap (λ (bs : List ℕ). eqb (l .bits) 0 && allZero bs) (bytes-end s (l .p) e (c .loop-test .left)) ∙ and-true (eqb (l .bits) 0))
+    sym (ap (λ (bs : List ℕ). eqb (l .bits) 0 && allZero bs) (bytes-end s (l .p) e (c .loop-test .left))
+    ∙ and-true (eqb (l .bits) 0))
     ∙ l .inv .1
 
 pub all-zero-spec : {M : Type 1} → statement M

@@ -10,11 +10,13 @@ use Rattle.fields.proofs.characters.character.Tie as tie
 
 -- after each test of a range that was not met, the byte is outside it
 not-small : (c : tie.Joined1) → between 97 122 (c .before .args .b) ≡ false
-not-small c = ⊎-elim (λ w. past 97 122 (c .before .args .b) (w .1 .left)) (λ w. early 97 122 (c .before .args .b) (w .left)) (c .if1 .came)
+not-small c = ⊎-elim (λ w. past 97 122 (c .before .args .b) (w .1 .left))
+    (λ w. early 97 122 (c .before .args .b) (w .left)) (c .if1 .came)
 
 not-capital : (c : tie.Joined3) → between 65 90 (c .before .before .args .b) ≡ false
 not-capital c =
-    ⊎-elim (λ w. past 65 90 (c .before .before .args .b) (w .1 .left)) (λ w. early 65 90 (c .before .before .args .b) (w .left))
+    ⊎-elim (λ w. past 65 90 (c .before .before .args .b) (w .1 .left))
+    (λ w. early 65 90 (c .before .before .args .b) (w .left))
     (c .if3 .came)
 
 not-digit : (c : tie.Joined5) → between 48 57 (c .before .before .before .args .b) ≡ false
@@ -35,7 +37,8 @@ returns-2 c =
 returns-3 : tie.Need-returns-3
 returns-3 c =
     let b = c .before .before .before .before .args .b in
-    class-digit b (not-small (c .before .before .before)) (not-capital (c .before .before)) (inside 48 57 b (c .before .if5 .taken) (c .if6 .taken))
+    class-digit b (not-small (c .before .before .before)) (not-capital (c .before .before))
+    (inside 48 57 b (c .before .if5 .taken) (c .if6 .taken))
 
 returns-4 : tie.Need-returns-4
 unfolding classOf pick
@@ -52,12 +55,17 @@ returns-6 c = rw (c .match .keys4)
 returns-7 : tie.Need-returns-7
 returns-7 c =
     let b = c .before .before .before .before .before .args .b in
-    class-other b (not-small (c .before .before .before .before)) (not-capital (c .before .before .before)) (not-digit (c .before .before)) (c .before .match .rest .0 .0 .1) (inl (c .if7 .taken)) (c .before .match .rest .0 .1) (c .before .match .rest .1) (c .before .match .rest .0 .0 .0 .1)
+    class-other b (not-small (c .before .before .before .before)) (not-capital (c .before .before .before))
+    (not-digit (c .before .before)) (c .before .match .rest .0 .0 .1) (inl (c .if7 .taken))
+    (c .before .match .rest .0 .1) (c .before .match .rest .1) (c .before .match .rest .0 .0 .0 .1)
 
 returns-8 : tie.Need-returns-8
 returns-8 c =
     let b = c .before .before .before .before .before .before .args .b in
-    class-other b (not-small (c .before .before .before .before .before)) (not-capital (c .before .before .before .before)) (not-digit (c .before .before .before)) (c .before .before .match .rest .0 .0 .1) (inr (c .if8 .left)) (c .before .before .match .rest .0 .1) (c .before .before .match .rest .1) (c .before .before .match .rest .0 .0 .0 .1)
+    class-other b (not-small (c .before .before .before .before .before))
+    (not-capital (c .before .before .before .before)) (not-digit (c .before .before .before))
+    (c .before .before .match .rest .0 .0 .1) (inr (c .if8 .left)) (c .before .before .match .rest .0 .1)
+    (c .before .before .match .rest .1) (c .before .before .match .rest .0 .0 .0 .1)
 
 returns-9 : tie.Need-returns-9
 unfolding classOf pick

@@ -30,7 +30,8 @@ returns-2 c =
     let a = c .before .before .before .before in
     let s = a .args .s .now in
     let i = a .args .i in
-    sym (padded-run inRuleId 0 2 rule-class s i 8 (a .pre) (c .before .before .run-end .ensures .0) (c .before .if1 .left) (c .before .before .run-end .ensures .1) (c .run-end2 .ensures .0))
+    sym (padded-run inRuleId 0 2 rule-class s i 8 (a .pre) (c .before .before .run-end .ensures .0)
+    (c .before .if1 .left) (c .before .before .run-end .ensures .1) (c .run-end2 .ensures .0))
 
 pub rule-id-form-spec : {M : Type 1} → statement M
 rule-id-form-spec =

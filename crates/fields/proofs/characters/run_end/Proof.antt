@@ -15,13 +15,16 @@ use Rattle.fields.proofs.characters.run_end.Statement.{statement}
 use Rattle.fields.proofs.characters.run_end.Tie as tie
 
 abbrev Inv-loop : tie.InvT-loop
-Inv-loop s i e lo hi p₀ p = (i ≤ p) × ((p ≤ e) × (p + leading (ofClass lo hi) (bytesAt s p (e - p)) ≡ i + leading (ofClass lo hi) (bytesAt s i (e - i))))
+Inv-loop s i e lo hi p₀ p =
+    (i ≤ p)
+    × (p ≤ e)
+    × (p + leading (ofClass lo hi) (bytesAt s p (e - p)) ≡ i + leading (ofClass lo hi) (bytesAt s i (e - i)))
 
 abbrev μ-loop : tie.MeasureT-loop
 μ-loop s i e lo hi p₀ p = e - p
 
 loop-holds : tie.Need-loop-holds Inv-loop μ-loop
-loop-holds c = (search needs, (search needs, refl))
+loop-holds c = (search needs, search needs, refl)
 
 shared-slice-read-character : tie.Need-shared-slice-read-character Inv-loop μ-loop
 shared-slice-read-character c = search needs
@@ -39,8 +42,11 @@ returns c =
     let r : f b ≡ false =
     ⊎-elim (λ w. class-below (a .lo) (a .hi) b (c .before .character .ensures) (w .taken))
     (λ w. class-above (a .lo) (a .hi) b (c .before .character .ensures) (w .1 .taken))
-    (c .if1 .came) in
-    (run-stop f s (l .p) (a .e) (c .before .before .before .loop-test .taken) (omega arith) r ∙ l .inv .1 .1, search needs)
+    (c .if1 .came) in (
+      run-stop f s (l .p) (a .e) (c .before .before .before .loop-test .taken) (omega arith) r
+          ∙ l .inv .2,
+      search needs,
+    )
 
 add-p : tie.Need-add-p Inv-loop μ-loop
 add-p c = search needs
@@ -55,14 +61,19 @@ loop-again c =
     let s = a .s .now in
     let b = getD s (l .p) 0 in
     let f = ofClass (a .lo) (a .hi) in
-    let r : f b ≡ true = class-in (a .lo) (a .hi) b (c .before .before .character .ensures) (c .before .if1 .left) (c .if2 .left) in
-    (search needs, (search needs, run-more f s (l .p) (a .e) (c .before .before .before .before .loop-test .taken) (omega arith) r ∙ l .inv .1 .1))
+    let r : f b ≡ true = class-in (a .lo) (a .hi) b (c .before .before .character .ensures) (c .before .if1 .left)
+    (c .if2 .left) in (
+      search needs,
+      search needs,
+      run-more f s (l .p) (a .e) (c .before .before .before .before .loop-test .taken)
+          (omega arith) r ∙ l .inv .2,
+    )
 
 returns-2 : tie.Need-returns-2 Inv-loop μ-loop
 returns-2 c =
     let a = c .before .before .before .args in
     let l = c .before .loop in
-    (run-done (ofClass (a .lo) (a .hi)) (a .s .now) (l .p) (a .e) (c .loop-test .left) ∙ l .inv .1 .1, search needs)
+    (run-done (ofClass (a .lo) (a .hi)) (a .s .now) (l .p) (a .e) (c .loop-test .left) ∙ l .inv .2, search needs)
 
 pub run-end-spec : {M : Type 1} → statement M
 run-end-spec =

@@ -28,17 +28,20 @@ returns c =
 returns-2 : tie.Need-returns-2
 returns-2 c =
     let a = c .before .before .before .before .before .before .args in
-    sym (no-month (a .s .now) (a .i) (c .before .before .before .before .two .ensures .0) (c .before .if1 .left) (c .if2 .taken))
+    sym (no-month (a .s .now) (a .i) (c .before .before .before .before .two .ensures .0) (c .before .if1 .left)
+    (c .if2 .taken))
 
 returns-3 : tie.Need-returns-3
 returns-3 c =
     let a = c .before .before .before .before .before .before .before .args in
-    sym (late-month (a .s .now) (a .i) (c .before .before .before .before .before .two .ensures .0) (c .before .before .if1 .left) (c .before .if2 .left) (c .if3 .taken))
+    sym (late-month (a .s .now) (a .i) (c .before .before .before .before .before .two .ensures .0)
+    (c .before .before .if1 .left) (c .before .if2 .left) (c .if3 .taken))
 
 returns-4 : tie.Need-returns-4
 returns-4 c =
     let a = c .before .before .before .before .before .before .before .before .args in
-    sym (no-day (a .s .now) (a .i) (c .before .before .before .before .before .before .two .ensures .0) (c .before .before .before .if1 .left) (c .before .before .if2 .left) (c .before .if3 .left) (c .if4 .taken))
+    sym (no-day (a .s .now) (a .i) (c .before .before .before .before .before .before .two .ensures .0)
+    (c .before .before .before .if1 .left) (c .before .before .if2 .left) (c .before .if3 .left) (c .if4 .taken))
 
 days-in-requires : tie.Need-days-in-requires
 days-in-requires c κs = search needs
@@ -46,7 +49,9 @@ days-in-requires c κs = search needs
 returns-5 : tie.Need-returns-5
 returns-5 c =
     let a = c .before .before .before .before .before .before .before .before .before .args in
-    sym (day-there (a .s .now) (a .i) (c .before .before .before .before .before .before .before .two .ensures .0) (c .before .before .before .before .if1 .left) (c .before .before .before .if2 .left) (c .before .before .if3 .left) (c .before .if4 .left) (c .days-in .ensures))
+    sym (day-there (a .s .now) (a .i) (c .before .before .before .before .before .before .before .two .ensures .0)
+    (c .before .before .before .before .if1 .left) (c .before .before .before .if2 .left)
+    (c .before .before .if3 .left) (c .before .if4 .left) (c .days-in .ensures))
 
 pub date-exists-spec : {M : Type 1} → statement M
 date-exists-spec =

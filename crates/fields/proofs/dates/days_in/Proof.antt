@@ -10,10 +10,12 @@ leap-year-requires : tie.Need-leap-year-requires
 leap-year-requires c κs = search needs
 
 returns : tie.Need-returns
-returns c = leap-february (c .before .before .before .args .y) (c .before .before .match .keys1) (sym (c .before .leap-year .ensures) ∙ c .if1 .taken)
+returns c = leap-february (c .before .before .before .args .y) (c .before .before .match .keys1)
+    (sym (c .before .leap-year .ensures) ∙ c .if1 .taken)
 
 returns-2 : tie.Need-returns-2
-returns-2 c = february (c .before .before .before .args .y) (c .before .before .match .keys1) (sym (c .before .leap-year .ensures) ∙ c .if1 .left)
+returns-2 c = february (c .before .before .before .args .y) (c .before .before .match .keys1)
+    (sym (c .before .leap-year .ensures) ∙ c .if1 .left)
 
 returns-3 : tie.Need-returns-3
 returns-3 c =

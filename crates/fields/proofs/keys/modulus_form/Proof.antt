@@ -1,0 +1,58 @@
+-- The modulus, by the bits of its first byte and the parity of its last. Assumes nothing.
+use native.Mathlib.Omega.{arith}
+use mathlib.Core.Path.{sym}
+use Rattle.fields.proofs.Sizes.{modulus-not, modulus-last}
+use borrow.Author.Needs.{needs}
+use Rattle.fields.proofs.keys.modulus_form.Statement.{statement}
+use Rattle.fields.proofs.keys.modulus_form.Tie as tie
+
+shared-slice-read-if1 : tie.Need-shared-slice-read-if1
+shared-slice-read-if1 c = search needs
+
+sub-if1 : tie.Need-sub-if1
+sub-if1 c = search needs
+
+cast-if1 : tie.Need-cast-if1
+cast-if1 c = search needs
+
+shr-if1 : tie.Need-shr-if1
+shr-if1 c = search needs
+
+returns : tie.Need-returns
+returns c =
+    let a = c .before .before in
+    sym
+    (modulus-not (a .args .s .now) (λ k. (c .before .shared-slice-known .given k) .fits) (a .args .i) (a .args .n)
+    (a .pre .0) (a .args .bits) (omega arith) (a .pre .1 .1 .1)
+    (c .if1 .taken))
+
+add-result : tie.Need-add-result
+add-result c = search needs
+
+sub-result : tie.Need-sub-result
+sub-result c = search needs
+
+shared-slice-read-result : tie.Need-shared-slice-read-result
+shared-slice-read-result c = search needs
+
+returns-2 : tie.Need-returns-2
+returns-2 c =
+    let a = c .before .before .before in
+    sym
+    (modulus-last (a .args .s .now) (λ k. (c .before .before .shared-slice-known .given k) .fits) (a .args .i)
+    (a .args .n) (a .pre .0) (a .args .bits) (omega arith) (a .pre .1 .1 .1)
+    (c .before .if1 .left))
+
+pub modulus-form-spec : {M : Type 1} → statement M
+modulus-form-spec =
+    tie.close
+    (tie.spec
+    shared-slice-read-if1
+    sub-if1
+    cast-if1
+    shr-if1
+    returns
+    add-result
+    sub-result
+    shared-slice-read-result
+    returns-2)
