@@ -138,7 +138,7 @@ pub field-at : {b : Bool} (f : List ℕ → Bool) (s : List ℕ) (p o n : ℕ) �
 field-at f s p o n e = e ∙ sym (ap f (at-drop s p o n))
 
 -- what the first test of a head leaves where none refuses
-room-case : (a b : Bool) (h k r m l n : ℕ) → leb m l ≡ a → leb l n ≡ b → (r ≡ 0 → ⊥) → h ≡ 0
+pub room-case : (a b : Bool) (h k r m l n : ℕ) → leb m l ≡ a → leb l n ≡ b → (r ≡ 0 → ⊥) → h ≡ 0
     → h ≡ elim (a && b) as (λ x. ℕ) [ true ↦ k | false ↦ r ] → (m ≤ l) × (l ≤ n)
 room-case true true h k r m l n q w f z e = (leb-true m l q, leb-true l n w)
 room-case true false h k r m l n q w f z e = absurd (f (sym e ∙ z))

@@ -5,9 +5,11 @@ ghost use Prim.Native.Nat.{_+_, _≤_};
 ghost use lib.ListN.{length, drop};
 ghost use mathlib.Core.List.{List};
 ghost use Rattle.format.specs.Parts.{information, protection, dates, Part};
-ghost use Rattle.format.specs.Rules.{has};
-ghost use Rattle.format.specs.Reading.{fieldChecks, subsectionChecks, stated, told, sectionRest};
+ghost use Rattle.format.specs.Bytes.{number, bytesAt};
+ghost use Rattle.format.specs.Rules.{has, Section};
+ghost use Rattle.format.specs.Reading.{fieldChecks, subsectionChecks, stated, told, sectionRest, section, kindBefore};
 ghost use Rattle.sections.specs.Refusals.{firstRefusal, subRefusal, sectionRows};
+use crate::section_head;
 use crate::subsection_head;
 use fields::all_zero;
 use fields::dates::date_exists;
@@ -138,4 +140,21 @@ fn information_subs(s: &[u8], p: usize, e: usize, external: bool, full: bool) ->
         return Answer::Refused(20, p as u32);
     }
     Answer::Accepted(n)
+}
+
+// The section 14 at p, of which four bytes are there; seen: a section 14 stands before.
+pub fn information_at(s: &[u8], p: usize, external: bool, full: bool, seen: bool) -> Answer
+    requires { ⌜ (p + 4 ≤ length (now s)) × (length (now s) ≤ 3500) × (number (bytesAt (now s) p 1) ≡ 20) ⌝ }
+    ensures { λ r. ⌜ ((before : List Section) → kindBefore information before ≡ seen → r ≡ told sectionRows (section full external before p (drop p (now (s .entry))))) ⌝ }
+{
+    let h = section_head(s, p, 10, seen);
+    if h != 0 {
+        return Answer::Refused(h, p as u32);
+    }
+    let f = information_fields(s, p);
+    if f != 0 {
+        return Answer::Refused(f, p as u32);
+    }
+    let e = p + two(s, p + 2);
+    information_subs(s, p, e, external, full)
 }

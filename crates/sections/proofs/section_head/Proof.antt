@@ -3,26 +3,20 @@ use Rattle.format.specs.Bytes.{number, bytesAt}
 use lib.ListN.{length, drop, length-drop}
 use mathlib.Core.Bool.{not}
 use Prim.Native.Nat.{_+_}
-use Rattle.sections.proofs.Laws.{stop, pass, none, zero-yes, zero-not, number-at, at-most, above, at-least, below, byte-number, both-yes, first-not, second-not}
-use borrow.Author.Tests.{eq-eqb, ne-eqb, le-leb, lt-leb}
+use Rattle.sections.proofs.Laws.{stop, pass, none, zero-yes, zero-not, number-at, at-least, below, byte-number, both-yes, first-not, second-not}
+use borrow.Author.Tests.{le-leb, lt-leb}
 use native.Mathlib.Omega.{arith}
-use mathlib.Core.Path.{_≡_, refl, sym, _∙_, ap}
+use mathlib.Core.Path.{ap}
 use borrow.Author.Needs.{needs}
 use Rattle.sections.proofs.section_head.Statement.{statement}
 use Rattle.sections.proofs.section_head.Tie as tie
-use Rattle.sections.proofs.section_head.Reads as reads
-use Rattle.sections.proofs.section_head.Lts as lts
-use Rattle.fields.proofs.two.Reads as two-reads
 
--- src/lib.rt:17:10
 add-if1 : tie.Need-add-if1
 add-if1 c = search needs
 
--- src/lib.rt:17:8
 shared-slice-read-if1 : tie.Need-shared-slice-read-if1
 shared-slice-read-if1 c = search needs
 
--- src/lib.rt:18:9
 returns : tie.Need-returns
 unfolding headChecks
 returns c =
@@ -30,15 +24,12 @@ returns c =
     let p = c .before .before .before .args .p in
     stop _ _ (zero-not s p 1 1 (byte-number s (p + 1) (omega arith)) (c .if1 .taken))
 
--- src/lib.rt:20:22
 add-two : tie.Need-add-two
 add-two c = search needs
 
--- src/lib.rt:20:9
 two-requires : tie.Need-two-requires
 two-requires c κs = search needs
 
--- src/lib.rt:22:9
 returns-2 : tie.Need-returns-2
 unfolding headChecks
 returns-2 c =
@@ -47,11 +38,9 @@ returns-2 c =
     pass _ _ (zero-yes s p 1 1 (byte-number s (p + 1) (omega arith)) (c .before .before .if1 .left))
     (stop _ _ (first-not _ (below s p 2 2 (c .before .two .ensures .0) (c .before .before .before .before .before .args .least) (c .if2 .taken))))
 
--- src/lib.rt:24:8
 sub-if3 : tie.Need-sub-if3
 sub-if3 c = search needs
 
--- src/lib.rt:25:9
 returns-3 : tie.Need-returns-3
 unfolding headChecks
 returns-3 c =
@@ -60,7 +49,6 @@ returns-3 c =
     pass _ _ (zero-yes s p 1 1 (byte-number s (p + 1) (omega arith)) (c .before .before .before .if1 .left))
     (stop _ _ (second-not (at-least s p 2 2 (c .before .before .two .ensures .0) (c .before .before .before .before .before .before .args .least) (c .before .if2 .left)) (lt-leb (number (bytesAt (drop p s) 2 2)) (length (drop p s)) (omega (arith, (length-drop p s), number-at s p 2 2 (c .before .before .two .ensures .0))))))
 
--- src/lib.rt:28:9
 returns-4 : tie.Need-returns-4
 unfolding headChecks
 returns-4 c =
@@ -70,7 +58,6 @@ returns-4 c =
     (pass _ _ (both-yes (at-least s p 2 2 (c .before .before .before .two .ensures .0) (c .before .before .before .before .before .before .before .args .least) (c .before .before .if2 .left)) (le-leb (number (bytesAt (drop p s) 2 2)) (length (drop p s)) (omega (arith, (length-drop p s), number-at s p 2 2 (c .before .before .before .two .ensures .0)))))
     (stop _ _ (ap not (c .if4 .taken))))
 
--- src/lib.rt:13:1
 returns-5 : tie.Need-returns-5
 unfolding headChecks
 returns-5 c =

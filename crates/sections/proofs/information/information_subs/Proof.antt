@@ -1,29 +1,22 @@
 -- The loop over the subsections of section 14: what is read from here is what is read from the first one on.
 use Rattle.sections.proofs.InformationLaws.{kind-one, kind-two, turn-on, information-rest, ends-there, ends-missing, or-true, or-false}
 -- The loop over the subsections of section 14: what is read from here is what is read from the first one on.
-use Rattle.format.specs.Reading.{told, need, fault, found, partIn}
+use Rattle.format.specs.Reading.{told}
 use mathlib.Core.List.{[]}
 use Rattle.sections.proofs.InformationLaws.{kind-one, kind-two, turn-on, information-rest, ends-there, ends-missing, or-true, or-false}
-use Rattle.sections.proofs.Subs.{refused-told, refused-same, refused-then, loop-stops, loop-room, loop-on, at-here}
+use Rattle.sections.proofs.Subs.{refused-told, refused-same, refused-then, loop-stops, loop-room, loop-on}
 use Rattle.sections.specs.Loops.{InformationRead}
 use Rattle.sections.specs.Refusals.{sectionRows}
 use Rattle.format.specs.Parts.{information, protection, dates}
 use borrow.Author.Needs.{needs}
 use mathlib.Core.Logic.{⊎-elim}
-use Rattle.format.specs.Bytes.{number, bytesAt, allZero}
-use borrow.Author.Tests.{eq-eqb, ne-eqb, le-leb, lt-leb, not-true, not-false}
-use lib.ListN.{length, drop, length-drop}
-use lib.Dec.{eqb, leb}
+use borrow.Author.Tests.{not-true, not-false}
 use native.Mathlib.Omega.{arith}
-use Prim.Native.Nat.{ℕ, _+_, _-_, _≤_, _<_}
-use mathlib.Core.Bool.{Bool, true, false, not, _&&_, _||_}
-use mathlib.Core.Path.{_≡_, refl, sym, _∙_, ap, ap₂}
+use Prim.Native.Nat.{_-_, _≤_}
+use mathlib.Core.Bool.{Bool, not, _||_}
+use mathlib.Core.Path.{refl, sym, _∙_, ap, ap₂}
 use Rattle.sections.proofs.information.information_subs.Statement.{statement}
 use Rattle.sections.proofs.information.information_subs.Tie as tie
-use Rattle.sections.proofs.information.information_subs.Reads as reads
-use Rattle.sections.proofs.information.information_subs.Lts as lts
-use Rattle.fields.proofs.two.Reads as two-reads
-use Rattle.sections.proofs.information.information_sub.Reads as information-sub-reads
 
 abbrev Inv-loop : tie.InvT-loop
 Inv-loop s p e external full q₀ n₀ protected₀ dated₀ q n protected dated = InformationRead s p e external q n protected dated
@@ -31,19 +24,15 @@ Inv-loop s p e external full q₀ n₀ protected₀ dated₀ q n protected dated
 abbrev μ-loop : tie.MeasureT-loop
 μ-loop s p e external full q₀ n₀ protected₀ dated₀ q n protected dated = e - q
 
--- src/information.rt:110:17
 add-q : tie.Need-add-q Inv-loop μ-loop
 add-q c = search needs
 
--- src/information.rt:114:5
 loop-holds : tie.Need-loop-holds Inv-loop μ-loop
 loop-holds c = record { done = []; protections = refl; dateds = refl; unmasked = refl; rows = refl; few = omega arith; ends = search needs; same = refl }
 
--- src/information.rt:115:39
 sub-information-sub : tie.Need-sub-information-sub Inv-loop μ-loop
 sub-information-sub c = search needs
 
--- src/information.rt:115:13
 information-sub-requires : tie.Need-information-sub-requires Inv-loop μ-loop
 information-sub-requires c κs =
     let s = c .before .before .before .args .s .now in
@@ -54,7 +43,6 @@ information-sub-requires c κs =
     let w = c .before .loop .inv in
     (omega arith, search needs)
 
--- src/information.rt:117:39
 cast-t13 : tie.Need-cast-t13 Inv-loop μ-loop
 cast-t13 c =
     let s = c .before .before .before .before .before .args .s .now in
@@ -65,7 +53,6 @@ cast-t13 c =
     let w = c .before .before .before .loop .inv in
     search needs
 
--- src/information.rt:117:13
 returns : tie.Need-returns Inv-loop μ-loop
 returns c =
     let s = c .before .before .before .before .before .args .s .now in
@@ -80,7 +67,6 @@ returns c =
     (refused-same (information-rest (c .before .before .before .before .before .args .full) x s p e (c .before .before .before .before .before .pre .0) (c .before .before .before .before .before .pre .3))
     (refused-then _ (refused-same (sym (w .same)) (loop-stops s x information (w .done) q e h f (c .if1 .taken)))))
 
--- src/information.rt:119:12
 two-requires : tie.Need-two-requires Inv-loop μ-loop
 two-requires c κs =
     let s = c .before .before .before .before .before .args .s .now in
@@ -94,7 +80,6 @@ two-requires c κs =
     let r = loop-room s x information (w .done) q e h f (c .if1 .left) in
     omega (arith, r .0, r .1)
 
--- src/information.rt:124:9
 add-n : tie.Need-add-n Inv-loop μ-loop
 add-n c =
     let s = c .before .before .before .before .before .before .before .args .s .now in
@@ -108,7 +93,6 @@ add-n c =
     let r = loop-room s x information (w .done) q e h f (c .before .before .if1 .left) in
     omega (arith, w .few)
 
--- src/information.rt:125:21
 add-two : tie.Need-add-two Inv-loop μ-loop
 add-two c =
     let s = c .before .before .before .before .before .before .before .args .s .now in
@@ -122,7 +106,6 @@ add-two c =
     let r = loop-room s x information (w .done) q e h f (c .before .before .if1 .left) in
     omega (arith, r .0, r .1)
 
--- src/information.rt:125:14
 two-requires-2 : tie.Need-two-requires-2 Inv-loop μ-loop
 two-requires-2 c κs =
     let s = c .before .before .before .before .before .before .before .args .s .now in
@@ -136,7 +119,6 @@ two-requires-2 c κs =
     let r = loop-room s x information (w .done) q e h f (c .before .before .if1 .left) in
     omega (arith, r .0, r .1)
 
--- src/information.rt:125:9
 add-q-2 : tie.Need-add-q-2 Inv-loop μ-loop
 add-q-2 c =
     let s = c .before .before .before .before .before .before .before .before .args .s .now in
@@ -150,7 +132,6 @@ add-q-2 c =
     let r = loop-room s x information (w .done) q e h f (c .before .before .before .if1 .left) in
     omega (arith, r .0, r .1, c .two2 .ensures .0)
 
--- src/information.rt:114:5
 loop-less : tie.Need-loop-less Inv-loop μ-loop
 loop-less c =
     let s = c .before .before .before .before .before .before .before .before .args .s .now in
@@ -164,7 +145,6 @@ loop-less c =
     let r = loop-room s x information (w .done) q e h f (c .before .before .before .if1 .left) in
     omega (arith, r .0, r .1, c .two2 .ensures .0)
 
--- src/information.rt:114:5
 loop-again : tie.Need-loop-again Inv-loop μ-loop
 loop-again c =
     let s = c .before .before .before .before .before .before .before .before .args .s .now in
@@ -186,7 +166,6 @@ loop-again c =
     (λ v. turn-on dates w h g r′ (kind-two _ _ (g .told) (λ y. v .0 .left (tag ∙ y))) (or-false (c .before .before .before .before .before .before .loop .protected) ∙ sym (v .1)) (or-true (c .before .before .before .before .before .before .loop .dated) ∙ sym (v .2)) refl)
     (c .before .if2 .came)
 
--- src/information.rt:128:9
 returns-2 : tie.Need-returns-2 Inv-loop μ-loop
 returns-2 c =
     let s = c .before .before .before .before .args .s .now in
@@ -197,11 +176,9 @@ returns-2 c =
     let w = c .before .before .loop .inv in
     ends-there (c .before .before .before .before .args .full) w (c .before .loop-test .left) (c .before .before .before .before .pre .0) (c .before .before .before .before .pre .3) (ap (λ (b : Bool). not b || c .before .before .loop .protected) (not-true (c .before .before .before .before .args .full) (c .if3 .taken)))
 
--- src/information.rt:131:36
 cast-t16 : tie.Need-cast-t16 Inv-loop μ-loop
 cast-t16 c = search needs
 
--- src/information.rt:131:9
 returns-3 : tie.Need-returns-3 Inv-loop μ-loop
 returns-3 c =
     let s = c .before .before .before .before .before .args .s .now in
@@ -212,7 +189,6 @@ returns-3 c =
     let w = c .before .before .before .loop .inv in
     ends-missing (c .before .before .before .before .before .args .full) w (c .before .before .loop-test .left) (c .before .before .before .before .before .pre .0) (c .before .before .before .before .before .pre .3) (ap₂ (λ (a b : Bool). not a || b) (not-false (c .before .before .before .before .before .args .full) (c .before .if3 .left)) (not-true (c .before .before .before .loop .protected) (c .if4 .taken)))
 
--- src/information.rt:106:1
 returns-4 : tie.Need-returns-4 Inv-loop μ-loop
 returns-4 c =
     let s = c .before .before .before .before .before .args .s .now in

@@ -1,0 +1,100 @@
+-- A section of a known kind, by the number of its first refusal: the outcome that the definition gives.
+use mathlib.Core.Path.{_≡_, refl, sym, ap, ap₂, _∙_, subst}
+use mathlib.Core.Bool.{Bool, true, false, not, _&&_, _||_}
+use mathlib.Core.List.{List, [], _∷_, _++_}
+use mathlib.Core.Option.{Option, none, some}
+use Prim.Native.Nat.{ℕ, zero, suc, _+_, _-_, _<_, _≤_}
+use native.Mathlib.Omega.{arith}
+use lib.Dec.{eqb, leb}
+use lib.ListN.{length, getD, drop, length-drop}
+use borrow.Author.Tests.{le-leb, leb-true}
+use Rattle.format.specs.Bytes.{number, bytesAt, allZero}
+use Rattle.format.specs.Parts.{Kind, rule, information, sameKind, sectionKind, Part}
+use Rattle.format.specs.Rules.{Section, hasRequired}
+use Rattle.format.specs.Reading.{Outcome, refused, found, fault, need, andThen, tested, told, idOf, stated, madeLength, partIn}
+use Rattle.format.specs.Reading.{kindBefore, ruleBefore, sectionChecks, closed, sectionRest, section, subsections}
+use Rattle.format.specs.declared.Answer.{Answer}
+use Rattle.format.specs.declared.Answer.the-variants.{Accepted, Refused}
+use Rattle.format.proofs.Finding.{every-kind}
+use Rattle.format.proofs.Tests.{need-passed, then-found}
+use Rattle.format.proofs.Turns.{subsectionsFrom, subs-from, subs-none}
+use Rattle.sections.specs.Refusals.{firstRefusal, headChecks, sectionRows}
+use Rattle.sections.proofs.Laws.{numbered, room-case}
+use Rattle.sections.proofs.Subs.{RefusedAs, refused-same, refused-told, stops, leads, at-here}
+
+-- Every test of a section has a number.
+section-numbered : (x : Bool) (k : Kind) (seen repeated : Bool) (r : List ℕ) → numbered (sectionChecks x k seen repeated r) ≡ true
+section-numbered x k seen repeated r = every-kind (λ j. numbered (sectionChecks x j seen repeated r)) refl k
+
+module _ (full x : Bool) (k : Kind) (before : List Section) (s : List ℕ) (p : ℕ) where
+  -- The tests of the section at p, where it is of kind k.
+  abbrev Tests : Bool → Bool → ℕ
+  Tests seen repeated = firstRefusal (sectionChecks x k seen repeated (drop p s))
+
+  known : p + 4 ≤ length s → sectionKind (number (bytesAt s p 1)) ≡ some k
+      → section full x before p (drop p s)
+      ≡ tested p (sectionChecks x k (kindBefore k before) (ruleBefore (partIn k (drop p s)) before) (drop p s)) (sectionRest full x k p (drop p s))
+  unfolding section
+  known h e =
+      let l = length-drop p s in
+      need-passed (leb 4 (length (drop p s))) (fault 6 p 0) _ (le-leb 4 (length (drop p s)) (omega arith))
+      ∙ ap (λ (m : Option Kind). elim m as (λ y. Outcome Section) [ none ↦ refused (fault 7 p 0) | some j ↦ tested p (sectionChecks x j (kindBefore j before) (ruleBefore (partIn j (drop p s)) before) (drop p s)) (sectionRest full x j p (drop p s)) ])
+      (ap sectionKind (at-here s p 1) ∙ e)
+
+  -- A section with a number is refused with it, at its place.
+  pub section-stops : {m : ℕ} {seen repeated : Bool} → p + 4 ≤ length s → sectionKind (number (bytesAt s p 1)) ≡ some k
+      → kindBefore k before ≡ seen → ruleBefore (partIn k (drop p s)) before ≡ repeated
+      → m ≡ Tests seen repeated → (m ≡ 0 → ⊥) → Refused m p ≡ told sectionRows (section full x before p (drop p s))
+  section-stops {m} h e a b f z =
+      let g : m ≡ Tests (kindBefore k before) (ruleBefore (partIn k (drop p s)) before) = f ∙ ap₂ Tests (sym a) (sym b) in
+      refused-told sectionRows
+      (refused-same (known h e)
+      (subst (λ (y : ℕ). RefusedAs (tested p (sectionChecks x k (kindBefore k before) (ruleBefore (partIn k (drop p s)) before) (drop p s)) (sectionRest full x k p (drop p s))) y p)
+      (sym g) (stops p _ _ (λ q. z (g ∙ q)))))
+
+  -- One without a number is what its subsections and its end make of it.
+  pub section-goes : {seen repeated : Bool} → p + 4 ≤ length s → sectionKind (number (bytesAt s p 1)) ≡ some k
+      → kindBefore k before ≡ seen → ruleBefore (partIn k (drop p s)) before ≡ repeated
+      → 0 ≡ Tests seen repeated → section full x before p (drop p s) ≡ sectionRest full x k p (drop p s)
+  section-goes h e a b f =
+      let g = f ∙ ap₂ Tests (sym a) (sym b) in
+      known h e
+      ∙ leads p _ _ (section-numbered x k (kindBefore k before) (ruleBefore (partIn k (drop p s)) before) (drop p s)) (sym g)
+
+-- What the tests of a section's head leave: its least length, and so its fixed fields, lie within the token.
+version-case : (b : Bool) (h m : ℕ) → h ≡ elim b as (λ x. ℕ) [ true ↦ m | false ↦ 8 ] → h ≡ 0 → h ≡ m
+version-case true h m e z = e
+version-case false h m e z = absurd (omega arith)
+
+pub head-room : {h : ℕ} (m : ℕ) (seen : Bool) (s : List ℕ) (p : ℕ) → h ≡ firstRefusal (headChecks m seen (drop p s)) → h ≡ 0
+    → (m ≤ stated (drop p s)) × (stated (drop p s) ≤ length s - p)
+unfolding firstRefusal headChecks
+head-room {h} m seen s p e z =
+    let r : List ℕ = drop p s in
+    let l = length-drop p s in
+    let v = version-case (allZero (bytesAt r 1 1)) h _ e z in
+    let c = room-case (leb m (stated r)) (leb (stated r) (length r)) h _ 6 m (stated r) (length r) refl refl (λ q. omega arith) z v in
+    (c .0, omega (arith, c .1))
+
+-- A section without subsections whose counts make its length is found as it is.
+pub plain-rest : (full x : Bool) (k : Kind) (p : ℕ) (r : List ℕ) → madeLength k r ≡ stated r → sameKind rule k ≡ false → sameKind information k ≡ false
+    → sectionRest full x k p r ≡ found (record { head = partIn k r; subs = [] })
+unfolding sectionRest closed
+plain-rest full x k p r e a b =
+    let m : ℕ = madeLength k r in
+    let none : stated r - m ≡ 0 = omega arith in
+    let s : Section = record { head = partIn k r; subs = [] } in
+    then-found _
+    (subs-from (suc (stated r)) x k [] (p + m) (stated r - m) (drop m r) (omega arith)
+    ∙ ap (λ (n : ℕ). subsectionsFrom x k [] (p + m) n (drop m r)) none
+    ∙ subs-none x k [] (p + m) (drop m r))
+    ∙ need-passed true (fault 18 (p + m) 5) _ refl
+    ∙ need-passed (not full || hasRequired s) (fault 20 p 0) (found s) (free full (hasRequired s) (required a b))
+  where
+    free : (f c : Bool) → c ≡ true → (not f || c) ≡ true
+    free true c q = q
+    free false c q = refl
+
+    required : sameKind rule k ≡ false → sameKind information k ≡ false → hasRequired (record { head = partIn k r; subs = [] }) ≡ true
+    required q w =
+        ap₂ (λ (u v : Bool). (not (u && eqb (number (getD (partIn k r .fields) 1 [])) 1) || false) && (not v || false)) q w
