@@ -14,3 +14,5 @@ pub mod Header
 pub mod Flat
 pub mod Sizes
 pub mod Accepted
+pub mod Reaching
+pub mod Numbering
