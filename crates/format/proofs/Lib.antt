@@ -16,3 +16,4 @@ pub mod Sizes
 pub mod Accepted
 pub mod Reaching
 pub mod Numbering
+pub mod Rows

@@ -5,7 +5,7 @@ use mathlib.Core.List.{List, [], _∷_, _++_}
 use mathlib.Core.Option.{Option, none, some}
 use Prim.Native.Nat.{ℕ, zero, suc, _+_, _-_, _≤_, _<_}
 use native.Mathlib.Omega.{arith}
-use lib.Dec.{eqb, leb}
+use lib.Dec.{leb}
 use lib.ListN.{length, take, drop, length-take, length-drop}
 use borrow.Author.Tests.{eqb-true, leb-true}
 use Rattle.format.specs.Bytes.{number, bytesAt}
@@ -17,8 +17,7 @@ use Rattle.format.specs.Reading.{Fault, fault, Outcome, refused, found, 
 use Rattle.format.specs.Reading.{partIn, tested, subsectionChecks, subsection, subsections, kindBefore}
 use Rattle.format.specs.Reading.{ruleBefore, sectionChecks, placeOf, closed, sectionRest, section, sections}
 use Rattle.format.specs.Reading.{headerChecks, reading, rowCount, told, answer}
-use Rattle.format.specs.declared.Answer.{Answer}
-use Rattle.format.specs.declared.Answer.the-variants.{Accepted, Refused}
+use Rattle.format.specs.declared.Answer.the-variants.{Refused}
 use Rattle.format.proofs.Finding.{and-split, every-kind}
 use Rattle.format.proofs.Tests.{Hold}
 use Rattle.format.proofs.Reaching.{part-reach, sizes, sizes-last, place-le, least-pos}
