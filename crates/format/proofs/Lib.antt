@@ -17,3 +17,6 @@ pub mod Accepted
 pub mod Reaching
 pub mod Numbering
 pub mod Rows
+pub mod Elements
+pub mod Tiling
+pub mod Owners

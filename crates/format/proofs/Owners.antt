@@ -1,0 +1,129 @@
+-- The owner of a row: a section's is its own row, a subsection's the row of the last section before it.
+use mathlib.Core.Path.{_≡_, refl, sym, ap, _∙_, subst}
+use mathlib.Core.Bool.{Bool, true, false}
+use mathlib.Core.List.{List, [], _∷_}
+use mathlib.Core.Option.{some}
+use mathlib.Core.Logic.{_⊎_, inl, inr}
+use Prim.Native.Nat.{ℕ, zero, suc, _+_, _≤_, _<_}
+use native.Mathlib.Omega.{arith}
+use lib.ListN.{getElem?}
+use Rattle.format.specs.Parts.{sectionId, isSubsection, Part, size}
+use Rattle.format.specs.Legal.{Legal}
+use Rattle.format.specs.Table.{Placed, placed}
+use Rattle.format.proofs.Finding.{sectionId-pos}
+use Rattle.format.proofs.Unique.{Owned, FitParts, fit-parts}
+use Rattle.format.proofs.Grouping.{is-true, is-false}
+use Rattle.format.proofs.Elements.{some-inj}
+
+-- The owner of a section's row, for parts that stand behind n rows.
+own-from : (at n o : ℕ) (ps : List Part) (k : ℕ) (x : Placed) → getElem? (placed at n o ps) k ≡ some x
+    → isSubsection (x .part .kind) ≡ false → x .row .owner ≡ n + k
+own-from at n o [] k x e s = absurd (let z : _≡_ {A = ℕ} 0 1 = cc in omega arith)
+own-from at n o (p ∷ ps) zero x e s =
+    let q = some-inj e in
+    ap (λ (y : Placed). y .row .owner) (sym q)
+    ∙ is-false (isSubsection (p .kind)) o n (ap (λ (y : Placed). isSubsection (y .part .kind)) q ∙ s)
+    ∙ omega arith
+own-from at n o (p ∷ ps) (suc k) x e s = let i = own-from (at + size p) (suc n) _ ps k x e s in omega arith
+
+-- A section's owner is its own row.
+pub section-owner : (ps : List Part) (k : ℕ) (x : Placed) → getElem? (placed 8 0 0 ps) k ≡ some x
+    → isSubsection (x .part .kind) ≡ false → x .row .owner ≡ k
+section-owner ps k x e s = own-from 8 0 0 ps k x e s ∙ omega arith
+
+-- ---- the owner of a subsection
+
+-- Up to row k every row stands for a subsection.
+abbrev SubsTo : List Placed → ℕ → Type 0
+SubsTo xs k = (j : ℕ) (z : Placed) → j ≤ k → getElem? xs j ≡ some z → isSubsection (z .part .kind) ≡ true
+
+-- Row m is the last section up to row k: it is a section, and behind it up to row k every row stands for a subsection.
+pub record LastSection (xs : List Placed) (m k : ℕ) : Type 0 where
+  pub before : m < k
+  pub section : (y : Placed) × (getElem? xs m ≡ some y) × (isSubsection (y .part .kind) ≡ false)
+  pub behind : (j : ℕ) (z : Placed) → m < j → j ≤ k → getElem? xs j ≡ some z → isSubsection (z .part .kind) ≡ true
+
+-- The owner of a subsection's row is the section before these rows, or the last section among them.
+abbrev OwnerIs : ℕ → ℕ → List Placed → ℕ → Placed → Type 0
+OwnerIs n o xs k x = ((x .row .owner ≡ o) × SubsTo xs k) ⊎ ((m : ℕ) × (x .row .owner ≡ n + m) × LastSection xs m k)
+
+-- One row more in front.
+owned-behind : (n w o : ℕ) (y : Placed) (xs : List Placed) (k : ℕ) (x : Placed) (b : Bool)
+    → isSubsection (y .part .kind) ≡ b
+    → elim b as (λ c. ℕ) [ true ↦ o | false ↦ n ] ≡ w → OwnerIs (suc n) w xs k x → OwnerIs n o (y ∷ xs) (suc k) x
+owned-behind n w o y xs k x b s q (inr h) =
+    inr (
+      suc (h .0),
+      (let e = h .1 in omega arith),
+      record {
+        before = (let i = h .2 .before in omega arith);
+        section = h .2 .section;
+        behind = later (h .0) (h .2 .behind);
+      },
+    )
+  where
+    later : (m : ℕ)
+        → ((j : ℕ) (z : Placed) → m < j → j ≤ k → getElem? xs j ≡ some z → isSubsection (z .part .kind) ≡ true)
+        → (j : ℕ) (z : Placed) → suc m < j → j ≤ suc k → getElem? (y ∷ xs) j ≡ some z
+        → isSubsection (z .part .kind) ≡ true
+    later m f zero z a c e = absurd (omega arith)
+    later m f (suc j) z a c e = f j z (omega arith) (omega arith) e
+owned-behind n w o y xs k x true s q (inl h) = inl (h .0 ∙ sym q, all)
+  where
+    all : (j : ℕ) (z : Placed) → j ≤ suc k → getElem? (y ∷ xs) j ≡ some z → isSubsection (z .part .kind) ≡ true
+    all zero z a e = ap (λ (v : Placed). isSubsection (v .part .kind)) (sym (some-inj e)) ∙ s
+    all (suc j) z a e = h .1 j z (omega arith) e
+owned-behind n w o y xs k x false s q (inl h) =
+    inr (0, (let e = h .0 in omega arith), record { before = omega arith; section = (y, refl, s); behind = rest })
+  where
+    rest : (j : ℕ) (z : Placed) → 0 < j → j ≤ suc k → getElem? (y ∷ xs) j ≡ some z → isSubsection (z .part .kind) ≡ true
+    rest zero z a c e = absurd (omega arith)
+    rest (suc j) z a c e = h .1 j z (omega arith) e
+
+-- Where the first row stands for a subsection, so does every row up to it.
+first-sub : (y : Placed) (xs : List Placed) → isSubsection (y .part .kind) ≡ true → SubsTo (y ∷ xs) 0
+first-sub y xs s zero z a e = ap (λ (v : Placed). isSubsection (v .part .kind)) (sym (some-inj e)) ∙ s
+first-sub y xs s (suc j) z a e = absurd (omega arith)
+
+-- The owner of a subsection's row, for parts that stand behind n rows, o the row of the last section.
+owner-from : (at n o : ℕ) (ps : List Part) (k : ℕ) (x : Placed) → getElem? (placed at n o ps) k ≡ some x
+    → isSubsection (x .part .kind) ≡ true → OwnerIs n o (placed at n o ps) k x
+owner-from at n o [] k x e s = absurd (let z : _≡_ {A = ℕ} 0 1 = cc in omega arith)
+owner-from at n o (p ∷ ps) zero x e s =
+    let q = some-inj e in
+    let sub : isSubsection (p .kind) ≡ true = ap (λ (y : Placed). isSubsection (y .part .kind)) q ∙ s in
+    let w : ℕ = elim (isSubsection (p .kind)) [ true ↦ o | false ↦ n ] in
+    inl (
+      ap (λ (y : Placed). y .row .owner) (sym q) ∙ is-true (isSubsection (p .kind)) o n sub,
+      first-sub _ (placed (at + size p) (suc n) w ps) sub,
+    )
+owner-from at n o (p ∷ ps) (suc k) x e s =
+    owned-behind n _ o _ (placed (at + size p) (suc n) _ ps) k x (isSubsection (p .kind)) refl refl
+    (owner-from (at + size p) (suc n) _ ps k x e s)
+
+-- A choice begins with no subsection.
+opens : (k : ℕ) (ps : List Part) (x : Placed) → FitParts 0 ps → getElem? (placed 8 0 0 ps) k ≡ some x
+    → SubsTo (placed 8 0 0 ps) k → ⊥
+opens k [] x f e h = let z : _≡_ {A = ℕ} 0 1 = cc in omega arith
+opens k (p ∷ ps) x f e h =
+    let s : isSubsection (p .kind) ≡ true = h 0 _ (omega arith) refl in
+    let i : sectionId (p .kind) ≡ 0 = subst (λ (b : Bool). Owned b (sectionId (p .kind)) 0) s (f .0) in
+    let j = sectionId-pos (p .kind) in
+    omega arith
+
+-- A subsection's owner is the last section before it.
+pub subsection-owner : (bs : List ℕ) (l : Legal bs) (k : ℕ) (x : Placed) → getElem? (placed 8 0 0 (l .parts)) k ≡ some x
+    → isSubsection (x .part .kind) ≡ true → LastSection (placed 8 0 0 (l .parts)) (x .row .owner) k
+subsection-owner bs l k x e s = go (owner-from 8 0 0 ps k x e s)
+  where
+    ps : List Part
+    ps = l .parts
+
+    fit : FitParts 0 ps
+    fit = let c = l .form .choice in fit-parts ps 0 (c .fit) (c .joined) (l .form .parts)
+
+    go : OwnerIs 0 0 (placed 8 0 0 ps) k x → LastSection (placed 8 0 0 ps) (x .row .owner) k
+    go (inl h) = absurd (opens k ps x fit e (h .1))
+    go (inr h) =
+        let q : h .0 ≡ x .row .owner = (let i = h .1 in omega arith) in
+        subst (λ (m : ℕ). LastSection (placed 8 0 0 ps) m k) q (h .2)
