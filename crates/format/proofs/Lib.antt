@@ -20,3 +20,4 @@ pub mod Rows
 pub mod Elements
 pub mod Tiling
 pub mod Owners
+pub mod Viewing

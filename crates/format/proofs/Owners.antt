@@ -14,6 +14,7 @@ use Rattle.format.proofs.Finding.{sectionId-pos}
 use Rattle.format.proofs.Unique.{Owned, FitParts, fit-parts}
 use Rattle.format.proofs.Grouping.{is-true, is-false}
 use Rattle.format.proofs.Elements.{some-inj}
+use Rattle.format.proofs.Tiling.{IsRow}
 
 -- The owner of a section's row, for parts that stand behind n rows.
 own-from : (at n o : ℕ) (ps : List Part) (k : ℕ) (x : Placed) → getElem? (placed at n o ps) k ≡ some x
@@ -112,7 +113,7 @@ opens k (p ∷ ps) x f e h =
     omega arith
 
 -- A subsection's owner is the last section before it.
-pub subsection-owner : (bs : List ℕ) (l : Legal bs) (k : ℕ) (x : Placed) → getElem? (placed 8 0 0 (l .parts)) k ≡ some x
+pub subsection-owner : (bs : List ℕ) (l : Legal bs) (k : ℕ) (x : Placed) → IsRow bs l k x
     → isSubsection (x .part .kind) ≡ true → LastSection (placed 8 0 0 (l .parts)) (x .row .owner) k
 subsection-owner bs l k x e s = go (owner-from 8 0 0 ps k x e s)
   where

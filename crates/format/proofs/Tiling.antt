@@ -85,8 +85,12 @@ row-from at n o i bs (p ∷ ps) (suc k) x f e g =
     let q = r .place in
     record { part = r .part; kind = r .kind; place = omega arith; long = r .long; fits = r .fits; bytes = r .bytes }
 
+-- Row number k of the token is x.
+abbrev pub IsRow : (bs : List ℕ) → Legal bs → ℕ → Placed → Type 0
+IsRow bs l k x = getElem? (placed 8 0 0 (l .parts)) k ≡ some x
+
 -- Every row of a legal token stands for its part, with the bytes that lie there.
-pub row-of : (bs : List ℕ) (l : Legal bs) (k : ℕ) (x : Placed) → getElem? (placed 8 0 0 (l .parts)) k ≡ some x
+pub row-of : (bs : List ℕ) (l : Legal bs) (k : ℕ) (x : Placed) → IsRow bs l k x
     → RowOf 8 bs (l .parts) k x
 row-of bs l k x e =
     let c = l .form .choice in
@@ -171,7 +175,7 @@ span-bytes p ps = go (isSubsection (p .kind)) refl
         ∙ ap (λ (us : List Part). writeParts (p ∷ us)) (sym u)
 
 -- The bytes of a row in the token are the written form of its part and of that part's subsections.
-pub row-bytes : (bs : List ℕ) (l : Legal bs) (k : ℕ) (x : Placed) → getElem? (placed 8 0 0 (l .parts)) k ≡ some x
+pub row-bytes : (bs : List ℕ) (l : Legal bs) (k : ℕ) (x : Placed) → IsRow bs l k x
     → bytesAt bs (x .row .offset) (x .row .length) ≡ writeParts (x .part ∷ subsOf (x .part) (drop (suc k) (l .parts)))
 unfolding bytesAt
 row-bytes bs l k x e =
@@ -185,12 +189,12 @@ row-bytes bs l k x e =
 
 -- The length of a subsection's row is its part's.
 pub subsection-length : (bs : List ℕ) (l : Legal bs) (k : ℕ) (x : Placed)
-    → getElem? (placed 8 0 0 (l .parts)) k ≡ some x
+    → IsRow bs l k x
     → isSubsection (x .part .kind) ≡ true → x .row .length ≡ size (x .part)
 subsection-length bs l k x e s = row-of bs l k x e .long ∙ span-sub (x .part) (drop (suc k) (l .parts)) s
 
 -- The length of a section's row is its part's and its subsections'.
-pub section-length : (bs : List ℕ) (l : Legal bs) (k : ℕ) (x : Placed) → getElem? (placed 8 0 0 (l .parts)) k ≡ some x
+pub section-length : (bs : List ℕ) (l : Legal bs) (k : ℕ) (x : Placed) → IsRow bs l k x
     → isSubsection (x .part .kind) ≡ false
     → x .row .length ≡ size (x .part) + sizes (frontSubs (drop (suc k) (l .parts)))
 section-length bs l k x e s =
@@ -199,7 +203,7 @@ section-length bs l k x e s =
     ∙ ap (λ (n : ℕ). size (x .part) + n) (front-sizes (drop (suc k) (l .parts)))
 
 -- Every row lies behind the header and ends within the token; it has bytes of its own, four at least.
-pub row-inside : (bs : List ℕ) (l : Legal bs) (k : ℕ) (x : Placed) → getElem? (placed 8 0 0 (l .parts)) k ≡ some x
+pub row-inside : (bs : List ℕ) (l : Legal bs) (k : ℕ) (x : Placed) → IsRow bs l k x
     → (8 ≤ x .row .offset) × (4 ≤ size (x .part)) × (size (x .part) ≤ x .row .length)
     × (x .row .offset + x .row .length ≤ length bs)
 row-inside bs l k x e =
