@@ -21,3 +21,5 @@ pub mod Elements
 pub mod Tiling
 pub mod Owners
 pub mod Viewing
+pub mod Stepping
+pub mod Walking
