@@ -20,6 +20,7 @@ pub mod Rows
 pub mod Elements
 pub mod Tiling
 pub mod Owners
+pub mod Cutting
 pub mod Viewing
 pub mod Stepping
 pub mod Walking

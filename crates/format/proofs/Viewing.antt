@@ -2,31 +2,34 @@
 -- token.
 use mathlib.Core.Path.{_≡_, refl, sym, ap, ap₂, _∙_}
 use mathlib.Core.Bool.{true}
-use mathlib.Core.List.{List, [], _∷_, _++_, append-assoc, map}
+use mathlib.Core.List.{List, [], _++_}
 use mathlib.Core.Option.{Option, none, some}
 use Prim.Native.Nat.{ℕ, zero, suc, _+_, _≤_, _<_}
 use native.Mathlib.Omega.{arith}
-use lib.ListN.{length, getD, take, drop, getElem?, length-append, length-map, drop-of-length-le}
+use lib.ListN.{length, take, drop, getElem?, length-append, drop-of-length-le}
 use lib.Seq.{drop-drop, drop-at}
-use Rattle.format.specs.Bytes.{number, bytesAt}
-use Rattle.format.specs.Layout.{Item, code, zeros, own, count, fixed, counted, write, Slot, slots, slotBytes}
+use Rattle.format.specs.Bytes.{Bytes, number, bytesAt}
+use Rattle.format.specs.Layout.{write, Slot, slots, slotBytes}
 use Rattle.format.specs.Layout.{fieldsIn, endOf}
 use Rattle.format.specs.Parts.{layout, Part, writeParts}
-use Rattle.format.specs.Rules.{external, sectionsOf}
+use Rattle.format.specs.Rules.{Section, external, sectionsOf}
 use Rattle.format.specs.Legal.{Legal, joined}
-use Rattle.format.specs.Reading.{Fault, refused, reading, partsOf}
+use Rattle.format.specs.Reading.{Fault, refused, found, reading, partsOf}
 use Rattle.format.specs.Table.{Placed, placed}
 use Rattle.format.specs.Views.{slotOf, fieldAt, bytesThere, view, whetherThere, viewAnswer}
 use Rattle.format.specs.declared.Answer.the-variants.{Accepted, Refused}
 use Rattle.format.specs.declared.Where.{Where}
 use Rattle.format.specs.declared.Where.the-variants.{At, Missing}
 use Rattle.format.proofs.Numbers.{append-inj}
-use Rattle.format.proofs.Slots.{cut-at, written-laid}
+use Rattle.format.proofs.Slots.{written-laid}
+use Rattle.format.proofs.Unique.{size-any}
+use Rattle.format.proofs.Tests.{found-inj}
 use Rattle.format.proofs.Flat.{choice-flat}
-use Rattle.format.proofs.Accepted.{choice-parts, legal-read}
+use Rattle.format.proofs.Accepted.{choice-parts, read-legal, legal-read}
 use Rattle.format.proofs.Elements.{there, nowhere}
+use Rattle.format.proofs.Cutting.{slot-count, slotted, slots-contiguous, slots-tile, slots-inside}
 use Rattle.format.proofs.Rows.{placed-count}
-use Rattle.format.proofs.Tiling.{IsRow, row-of}
+use Rattle.format.proofs.Tiling.{IsRow, row-of, row-inside}
 
 -- ---- where a field lies
 
@@ -36,6 +39,13 @@ legal-parts bs l =
     let c = l .form .choice in
     let parts = choice-parts (external (l .id)) (l .parts) (c .bytes) (c .fit) (l .lawful .fields) in
     choice-flat (external (l .id)) (l .parts) parts (c .joined)
+
+-- What the reading of a token finds are the parts of a legal token.
+pub read-parts : (bs : List ℕ) (ss : List Section) → Bytes bs → reading true bs ≡ found ss
+    → (l : Legal bs) × (l .parts ≡ partsOf ss)
+read-parts bs ss b e =
+    let l = read-legal bs ss b e in
+    (l, sym (legal-parts bs l) ∙ ap partsOf (found-inj (sym (legal-read bs l) ∙ e)))
 
 -- Where a field lies of a row that may be there.
 abbrev ofRow : List ℕ → ℕ → Option Placed → Where
@@ -70,44 +80,6 @@ no-token : (bs : List ℕ) (f : Fault) (k j : ℕ) → reading true bs ≡ refus
 unfolding fieldAt
 no-token bs f k j e = rw (e, fieldAt)
 
--- ---- the slots of a row
-
--- The slots are those of the layout's fields, in order.
-pub slot-items : (ns : List ℕ) (l : List Item) (r : List ℕ) (o : ℕ) → map (λ s. s .item) (slots ns l r o) ≡ l
-slot-items ns [] r o = refl
-slot-items ns (code w v ∷ l) r o = ap (λ y. code w v ∷ y) (slot-items ns l r (o + w))
-slot-items ns (zeros n q ∷ l) r o = ap (λ y. zeros n q ∷ y) (slot-items ns l r (o + n))
-slot-items ns (own w ∷ l) r o = ap (λ y. own w ∷ y) (slot-items ns l r (o + w))
-slot-items ns (count w k ∷ l) r o =
-    ap (λ y. count w k ∷ y) (slot-items (ns ++ (number (bytesAt r o w) ∷ [])) l r (o + w))
-slot-items ns (fixed n ∷ l) r o = ap (λ y. fixed n ∷ y) (slot-items ns l r (o + n))
-slot-items ns (counted c ∷ l) r o = ap (λ y. counted c ∷ y) (slot-items ns l r (o + getD ns c 0))
-
--- There is a slot for each field of the layout.
-slot-count : (ns : List ℕ) (l : List Item) (r : List ℕ) (o : ℕ) → length (slots ns l r o) ≡ length l
-slot-count ns l r o = sym (length-map (slots ns l r o) (λ s. s .item)) ∙ ap length (slot-items ns l r o)
-
--- The bytes of slots, laid end to end.
-abbrev slotted : List ℕ → List Slot → List ℕ
-slotted r [] = []
-slotted r (s ∷ ss) = slotBytes r s ++ slotted r ss
-
--- A slot in front of others.
-slot-cons : (r : List ℕ) (o n : ℕ) (a z : List ℕ) → a ++ z ≡ drop (o + n) r → (bytesAt r o n ++ a) ++ z ≡ drop o r
-slot-cons r o n a z e = append-assoc (bytesAt r o n) a z ∙ ap (λ (y : List ℕ). bytesAt r o n ++ y) e ∙ cut-at r o n
-
--- The slots lie one behind another: their bytes, and those behind the last slot, are the bytes from the first on.
-slots-tile : (ns : List ℕ) (l : List Item) (r : List ℕ) (o : ℕ)
-    → slotted r (slots ns l r o) ++ drop (endOf o (slots ns l r o)) r ≡ drop o r
-slots-tile ns [] r o = refl
-slots-tile ns (code w v ∷ l) r o = slot-cons r o w _ _ (slots-tile ns l r (o + w))
-slots-tile ns (zeros n q ∷ l) r o = slot-cons r o n _ _ (slots-tile ns l r (o + n))
-slots-tile ns (own w ∷ l) r o = slot-cons r o w _ _ (slots-tile ns l r (o + w))
-slots-tile ns (count w k ∷ l) r o =
-    slot-cons r o w _ _ (slots-tile (ns ++ (number (bytesAt r o w) ∷ [])) l r (o + w))
-slots-tile ns (fixed n ∷ l) r o = slot-cons r o n _ _ (slots-tile ns l r (o + n))
-slots-tile ns (counted c ∷ l) r o = slot-cons r o (getD ns c 0) _ _ (slots-tile ns l r (o + getD ns c 0))
-
 -- ---- the views of a row
 
 -- The slots of a row in the token, its offset the first.
@@ -121,6 +93,15 @@ cut-row bs l k x e =
     let r = row-of bs l k x e in
     written-laid (layout (x .part .kind)) (x .row .length) [] (x .part .fields) (drop (x .row .offset) bs) 0
     (writeParts (drop (suc k) (l .parts))) (r .fits) (r .bytes) .1
+
+-- The slots of a row end where its part's own bytes end.
+slots-end : (bs : List ℕ) (l : Legal bs) (k : ℕ) (x : Placed) → IsRow bs l k x
+    → endOf 0 (slotsOf bs x) ≡ length (write (x .row .length) (layout (x .part .kind)) (x .part .fields))
+slots-end bs l k x e =
+    let r = row-of bs l k x e in
+    let i = written-laid (layout (x .part .kind)) (x .row .length) [] (x .part .fields) (drop (x .row .offset) bs) 0
+    (writeParts (drop (suc k) (l .parts))) (r .fits) (r .bytes) .2 in
+    omega arith
 
 -- The slots of a row are as many as the fields of its layout.
 slots-count : (bs : List ℕ) (x : Placed) → length (slotsOf bs x) ≡ length (layout (x .part .kind))
@@ -175,6 +156,29 @@ pub view-refused : (bs : List ℕ) (f : Fault) (k j : ℕ) → reading true bs �
     → (view bs k j ≡ []) × (viewAnswer bs k j ≡ Refused (f .number) (f .part))
 view-refused bs f k j e = missing bs k j (f .number) (f .part) (no-token bs f k j e)
 
+-- Where a field of a legal token lies, it lies behind the header and ends within the token.
+pub field-inside : (bs : List ℕ) (l : Legal bs) (k j o n : ℕ) → fieldAt bs k j ≡ At o n → (8 ≤ o) × (o + n ≤ length bs)
+field-inside bs l k j o n w = of (getElem? (placed 8 0 0 (l .parts)) k) refl
+  where
+    slot : (x : Placed) → IsRow bs l k x → (m : Option Slot) → getElem? (slotsOf bs x) j ≡ m
+        → ofSlot (x .row .offset) m ≡ At o n → (8 ≤ o) × (o + n ≤ length bs)
+    slot x e none g h = absurd (let z : _≡_ {A = ℕ} 0 1 = cc in omega arith)
+    slot x e (some s) g h =
+        let run = slots-contiguous [] (layout (x .part .kind)) (drop (x .row .offset) bs) 0 in
+        let i = slots-inside 0 (slotsOf bs x) j s run g in
+        let f = slots-end bs l k x e in
+        let z = size-any (layout (x .part .kind)) (x .row .length) 0 (x .part .fields) in
+        let r = row-inside bs l k x e in
+        let a : x .row .offset + s .offset ≡ o = cc in
+        let b : s .width ≡ n = cc in
+        (omega arith, omega arith)
+
+    of : (m : Option Placed) → getElem? (placed 8 0 0 (l .parts)) k ≡ m → (8 ≤ o) × (o + n ≤ length bs)
+    of none e =
+        let h : At o n ≡ Missing 22 0 = sym w ∙ found-field bs l k j ∙ ap (ofRow bs j) e in
+        absurd (let z : _≡_ {A = ℕ} 0 1 = cc in omega arith)
+    of (some x) e = slot x e (getElem? (slotsOf bs x) j) refl (sym (field-at bs l k j x e) ∙ w)
+
 -- ---- the views of a row, laid end to end
 
 -- The views of a row's fields from number j on, n of them, laid end to end.
@@ -205,13 +209,12 @@ views-tile bs l k x e =
     let w : List ℕ = write (x .row .length) (layout (x .part .kind)) (x .part .fields) in
     let z : List ℕ = writeParts (drop (suc k) (l .parts)) in
     let ss : List Slot = slotsOf bs x in
-    let ends : endOf 0 ss ≡ 0 + length w =
-    written-laid (layout (x .part .kind)) (x .row .length) [] (x .part .fields) r 0 z (row .fits) (row .bytes) .2 in
-    let len : endOf 0 ss ≡ length w = omega arith in
+    let len : endOf 0 ss ≡ length w = slots-end bs l k x e in
+    let run = slots-contiguous [] (layout (x .part .kind)) r 0 in
     let rest : drop (endOf 0 ss) r ≡ z =
     ap₂ (λ (n : ℕ) (y : List ℕ). drop n y) len (row .bytes) ∙ drop-at w z (length w) refl in
     let tile : slotted r ss ++ z ≡ w ++ z =
-    ap (λ (y : List ℕ). slotted r ss ++ y) (sym rest) ∙ slots-tile [] (layout (x .part .kind)) r 0 ∙ row .bytes in
+    ap (λ (y : List ℕ). slotted r ss ++ y) (sym rest) ∙ slots-tile r 0 ss run ∙ row .bytes in
     let ll : length (slotted r ss) + length z ≡ length w + length z =
     sym (length-append (slotted r ss) z) ∙ ap length tile ∙ length-append w z in
     let n = slots-count bs x in
