@@ -1,4 +1,4 @@
--- The owner of a row: a section's is its own row, a subsection's the row of the last section before it.
+-- The owner of a row: a section's is its own row, a subsection's that of the last section before it, which covers it.
 use mathlib.Core.Path.{_≡_, refl, sym, ap, _∙_, subst}
 use mathlib.Core.Bool.{Bool, true, false}
 use mathlib.Core.List.{List, [], _∷_}
@@ -6,15 +6,19 @@ use mathlib.Core.Option.{some}
 use mathlib.Core.Logic.{_⊎_, inl, inr}
 use Prim.Native.Nat.{ℕ, zero, suc, _+_, _≤_, _<_}
 use native.Mathlib.Omega.{arith}
-use lib.ListN.{getElem?}
+use lib.ListN.{length, take, drop, getElem?}
 use Rattle.format.specs.Parts.{sectionId, isSubsection, Part, size}
+use Rattle.format.specs.Rules.{frontSubs}
 use Rattle.format.specs.Legal.{Legal}
 use Rattle.format.specs.Table.{Placed, placed}
 use Rattle.format.proofs.Finding.{sectionId-pos}
 use Rattle.format.proofs.Unique.{Owned, FitParts, fit-parts}
 use Rattle.format.proofs.Grouping.{is-true, is-false}
-use Rattle.format.proofs.Elements.{some-inj}
-use Rattle.format.proofs.Tiling.{IsRow}
+use Rattle.format.proofs.Reaching.{sizes}
+use Rattle.format.proofs.Elements.{there, there-lt, some-inj}
+use Rattle.format.proofs.Rows.{placed-count}
+use Rattle.format.proofs.Tiling.{IsRow, rows-tile, row-of, subsection-length, section-length}
+use Rattle.format.proofs.Stepping.{rising}
 
 -- The owner of a section's row, for parts that stand behind n rows.
 own-from : (at n o : ℕ) (ps : List Part) (k : ℕ) (x : Placed) → getElem? (placed at n o ps) k ≡ some x
@@ -128,3 +132,60 @@ subsection-owner bs l k x e s = go (owner-from 8 0 0 ps k x e s)
     go (inr h) =
         let q : h .0 ≡ x .row .owner = (let i = h .1 in omega arith) in
         subst (λ (m : ℕ). LastSection (placed 8 0 0 ps) m k) q (h .2)
+
+-- ---- a section's row covers those of its subsections
+
+-- Subsections in front of parts reach no further than the front.
+front-covers : (ps : List Part) (k : ℕ) (q : Part) → getElem? ps k ≡ some q
+    → ((j : ℕ) (r : Part) → j ≤ k → getElem? ps j ≡ some r → isSubsection (r .kind) ≡ true)
+    → sizes (take k ps) + size q ≤ sizes (frontSubs ps)
+front-covers [] k q e h = absurd (let z : _≡_ {A = ℕ} 0 1 = cc in omega arith)
+front-covers (p ∷ ps) zero q e h =
+    let f = ap sizes (is-true (isSubsection (p .kind)) (p ∷ frontSubs ps) [] (h 0 p (omega arith) refl)) in
+    let s = ap size (some-inj e) in
+    omega arith
+front-covers (p ∷ ps) (suc k) q e h =
+    let f = ap sizes (is-true (isSubsection (p .kind)) (p ∷ frontSubs ps) [] (h 0 p (omega arith) refl)) in
+    let i = front-covers ps k q e (λ j r a g. h (suc j) r (omega arith) g) in
+    omega arith
+
+-- A part behind a section, with subsections between, ends within the section's subsections.
+section-covers : (ps : List Part) (m k : ℕ) (p q : Part) → m < k → getElem? ps m ≡ some p → getElem? ps k ≡ some q
+    → ((j : ℕ) (r : Part) → m < j → j ≤ k → getElem? ps j ≡ some r → isSubsection (r .kind) ≡ true)
+    → sizes (take k ps) + size q ≤ sizes (take m ps) + size p + sizes (frontSubs (drop (suc m) ps))
+section-covers [] m k p q l e f h = absurd (let z : _≡_ {A = ℕ} 0 1 = cc in omega arith)
+section-covers (v ∷ ps) m zero p q l e f h = absurd (omega arith)
+section-covers (v ∷ ps) zero (suc k) p q l e f h =
+    let s = ap size (some-inj e) in
+    let i = front-covers ps k q f (λ j r a g. h (suc j) r (omega arith) (omega arith) g) in
+    omega arith
+section-covers (v ∷ ps) (suc m) (suc k) p q l e f h =
+    let i = section-covers ps m k p q (omega arith) e f (λ j r a b g. h (suc j) r (omega arith) (omega arith) g) in
+    omega arith
+
+-- The row of a subsection lies in its owner's row, behind the owner's own fields.
+pub owner-covers : (bs : List ℕ) (l : Legal bs) (k : ℕ) (x y : Placed) → IsRow bs l k x
+    → isSubsection (x .part .kind) ≡ true → IsRow bs l (x .row .owner) y
+    → (y .row .offset + size (y .part) ≤ x .row .offset)
+    × (x .row .offset + x .row .length ≤ y .row .offset + y .row .length)
+owner-covers bs l k x y e s f =
+    let o = subsection-owner bs l k x e s in
+    let before = o .before in
+    let m : ℕ = x .row .owner in
+    let rx = row-of bs l k x e in
+    let ry = row-of bs l m y f in
+    let sec : isSubsection (y .part .kind) ≡ false =
+    ap (λ (v : Placed). isSubsection (v .part .kind)) (some-inj (sym f ∙ o .section .1)) ∙ o .section .2 in
+    let c = section-covers (l .parts) m k (y .part) (x .part) before (ry .part) (rx .part)
+    (λ j r a b g.
+    let n = there-lt (l .parts) j r g in
+    let w = placed-count 8 0 0 (l .parts) in
+    let t = there (placed 8 0 0 (l .parts)) j (omega arith) in
+    let q : t .0 .part ≡ r = some-inj (sym (row-of bs l j (t .0) (t .1) .part) ∙ g) in
+    ap (λ (v : Part). isSubsection (v .kind)) (sym q) ∙ o .behind j (t .0) a b (t .1)) in
+    let r = rising 8 (length bs) (placed 8 0 0 (l .parts)) m k y x (rows-tile bs l) before f e in
+    let lx = subsection-length bs l k x e s in
+    let ly = section-length bs l m y f sec in
+    let px = rx .place in
+    let py = ry .place in
+    (r, omega arith)

@@ -68,8 +68,7 @@ next-tile at e (v ∷ u ∷ xs) (suc k) x y t f g = next-tile (at + size (v .par
 
 -- The last row's part ends at the end.
 pub last-tile : (at e : ℕ) (xs : List Placed) (k : ℕ) (x : Placed) → Tiles at xs e → getElem? xs k ≡ some x
-    → suc k ≡ length xs
-    → x .row .offset + size (x .part) ≡ e
+    → suc k ≡ length xs → x .row .offset + size (x .part) ≡ e
 last-tile at e [] k x t g h = absurd (omega arith)
 last-tile at e (y ∷ []) zero x t g h =
     let p = ap (λ (w : Placed). w .row .offset) (some-inj g) in

@@ -90,8 +90,7 @@ abbrev pub IsRow : (bs : List ℕ) → Legal bs → ℕ → Placed → Type 0
 IsRow bs l k x = getElem? (placed 8 0 0 (l .parts)) k ≡ some x
 
 -- Every row of a legal token stands for its part, with the bytes that lie there.
-pub row-of : (bs : List ℕ) (l : Legal bs) (k : ℕ) (x : Placed) → IsRow bs l k x
-    → RowOf 8 bs (l .parts) k x
+pub row-of : (bs : List ℕ) (l : Legal bs) (k : ℕ) (x : Placed) → IsRow bs l k x → RowOf 8 bs (l .parts) k x
 row-of bs l k x e =
     let c = l .form .choice in
     let f = fit-parts (l .parts) 0 (c .fit) (c .joined) (l .form .parts) in
@@ -153,8 +152,7 @@ span-bytes p ps = go (isSubsection (p .kind)) refl
     la = size-any (layout (p .kind)) (span p ps) 0 (p .fields)
 
     front : (n : ℕ) (us : List Part) → span p ps ≡ size p + n → take n (writeParts ps) ≡ writeParts us
-        → span p ps ≡ span p us
-        → take (span p ps) (writeParts (p ∷ ps)) ≡ writeParts (p ∷ us)
+        → span p ps ≡ span p us → take (span p ps) (writeParts (p ∷ ps)) ≡ writeParts (p ∷ us)
     front n us s w t =
         let m : span p ps ≡ length a + n = omega (arith, la) in
         ap (λ (j : ℕ). take j (a ++ writeParts ps)) m
@@ -188,8 +186,7 @@ row-bytes bs l k x e =
 -- ---- the length of a row
 
 -- The length of a subsection's row is its part's.
-pub subsection-length : (bs : List ℕ) (l : Legal bs) (k : ℕ) (x : Placed)
-    → IsRow bs l k x
+pub subsection-length : (bs : List ℕ) (l : Legal bs) (k : ℕ) (x : Placed) → IsRow bs l k x
     → isSubsection (x .part .kind) ≡ true → x .row .length ≡ size (x .part)
 subsection-length bs l k x e s = row-of bs l k x e .long ∙ span-sub (x .part) (drop (suc k) (l .parts)) s
 
