@@ -40,12 +40,12 @@ pub record ReadAs (full : Bool) (bs : List ℕ) (ss : List Section) : Type 0 whe
   pub informed : (not full || kindBefore information ss) ≡ true
 
 -- The header's length is allowed: at least 8, at most 3,500 and the buffer, and a token's is the buffer's.
-record Allowed (full : Bool) (bs : List ℕ) : Type 0 where
-  eight : 8 ≤ stated bs
-  ends : stated bs ≤ length bs
-  most : stated bs ≤ 3500
+pub record Allowed (full : Bool) (bs : List ℕ) : Type 0 where
+  pub eight : 8 ≤ stated bs
+  pub ends : stated bs ≤ length bs
+  pub most : stated bs ≤ 3500
 
-allowed : (full : Bool) (bs : List ℕ) → 8 ≤ length bs → lengthAllowed full bs ≡ true → Allowed full bs
+pub allowed : (full : Bool) (bs : List ℕ) → 8 ≤ length bs → lengthAllowed full bs ≡ true → Allowed full bs
 allowed true bs h e =
     let s = and-split (leb (length bs) 3500) (eqb (stated bs) (length bs)) e in
     let m = leb-true (length bs) 3500 (s .0) in

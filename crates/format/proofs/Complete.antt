@@ -156,7 +156,7 @@ or-right : (a b : Bool) → b ≡ true → (a || b) ≡ true
 or-right true b e = refl
 or-right false b e = e
 
-or-else : (a b : Bool) → (a || b) ≡ true → a ≡ false → b ≡ true
+pub or-else : (a b : Bool) → (a || b) ≡ true → a ≡ false → b ≡ true
 or-else false b e f = e
 or-else true b e f = absurd (let z : _≡_ {A = ℕ} 0 1 = cc in omega arith)
 
@@ -171,7 +171,7 @@ owner-holds u k a e f =
     or-else _ _ o (ap (λ (n : ℕ). not (owning n)) (sym e) ∙ ap not i)
 
 -- The rule on two sections, by cases.
-may-kinds : (v w y : Bool) → (not v || (w && not y)) ≡ true → w ≡ false → v ≡ false
+pub may-kinds : (v w y : Bool) → (not v || (w && not y)) ≡ true → w ≡ false → v ≡ false
 may-kinds false w y e f = refl
 may-kinds true true y e f = f
 may-kinds true false y e f = sym e

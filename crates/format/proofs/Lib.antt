@@ -20,3 +20,13 @@ pub mod Beginnings
 pub mod Writing
 pub mod Changes
 pub mod Additions
+pub mod Reaching
+pub mod Numbering
+pub mod Rows
+pub mod Elements
+pub mod Tiling
+pub mod Owners
+pub mod Cutting
+pub mod Viewing
+pub mod Stepping
+pub mod Walking

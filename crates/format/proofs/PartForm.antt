@@ -74,7 +74,7 @@ laid-frame : (b : Bool) (i g t : ℕ) (l : List Item) (r : List ℕ) → Laid t 
 laid-frame false i g t l r d = ((d .0, d .1 .0, d .1 .1 .0), d .1 .1 .1)
 laid-frame true i g t l r d = ((d .0, d .1 .1 .0, d .1 .0), d .1 .1 .1)
 
-frame-fields : (b : Bool) (i g : ℕ) (l : List Item) (r : List ℕ)
+pub frame-fields : (b : Bool) (i g : ℕ) (l : List Item) (r : List ℕ)
     → (fieldsIn r (slots [] (frame b i g ++ l) r 0) ≡ fieldsIn r (slots [] l r (frameLong b)))
     × (endOf 0 (slots [] (frame b i g ++ l) r 0) ≡ endOf (frameLong b) (slots [] l r (frameLong b)))
 frame-fields false i g l r = (refl, refl)

@@ -264,7 +264,7 @@ fixed-made k r e = go (sameKind rule k) refl
     go false q = of information (sym (ap (λ (y : Bool). y || sameKind information k) q) ∙ e) refl
 
 -- The part itself ends within the stated length.
-made-le : (k : Kind) (r : List ℕ) → least (layout k) ≤ stated r → (holdsSubs k || eqb (madeLength k r) (stated r)) ≡ true
+pub made-le : (k : Kind) (r : List ℕ) → least (layout k) ≤ stated r → (holdsSubs k || eqb (madeLength k r) (stated r)) ≡ true
     → madeLength k r ≤ stated r
 made-le k r h e = go (holdsSubs k) refl
   where

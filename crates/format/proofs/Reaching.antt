@@ -1,0 +1,71 @@
+-- A part that is read reaches no further than its counts make it, and parts in a row no further than their sizes.
+use mathlib.Core.Bool.{Bool, true, false}
+use mathlib.Core.List.{List, [], _∷_, _++_}
+use mathlib.Core.Path.{_≡_, refl}
+use Prim.Native.Nat.{ℕ, _+_, _≤_}
+use native.Mathlib.Omega.{arith}
+use lib.Dec.{leb}
+use lib.ListN.{length, getD, length-append, length-take, length-replicate}
+use borrow.Author.Tests.{leb-true}
+use Rattle.format.specs.Bytes.{number, bytesAt}
+use Rattle.format.specs.Layout.{Item, code, zeros, own, count, fixed, counted}
+use Rattle.format.specs.Layout.{least, write, slots, fieldsIn, endOf}
+use Rattle.format.specs.Parts.{Kind, sectionId, tag, body, isSubsection, layout, sameKind, Part, size}
+use Rattle.format.specs.Reading.{madeLength, partIn, placeOf}
+use Rattle.format.proofs.Numbers.{bigEndian-length}
+use Rattle.format.proofs.Finding.{every-kind}
+use Rattle.format.proofs.PartForm.{frame-fields}
+
+-- At most n bytes are taken at a place.
+taken-le : (r : List ℕ) (o n : ℕ) → length (bytesAt r o n) ≤ n
+unfolding bytesAt
+taken-le r o n = simp length-take (omega arith)
+
+-- The written form of the fields in slots is no longer than the slots reach.
+reach : (l : List Item) (t : ℕ) (ns r : List ℕ) (o : ℕ)
+    → o + length (write t l (fieldsIn r (slots ns l r o))) ≤ endOf o (slots ns l r o)
+reach [] t ns r o = omega arith
+reach (code w v ∷ l) t ns r o = let i = reach l t ns r (o + w) in simp (length-append, bigEndian-length) (omega arith)
+reach (zeros n q ∷ l) t ns r o =
+    let i = reach l t ns r (o + n) in let m = length-replicate {A = ℕ} n 0 in simp length-append (omega arith)
+reach (own w ∷ l) t ns r o = let i = reach l t ns r (o + w) in simp (length-append, bigEndian-length) (omega arith)
+reach (count w k ∷ l) t ns r o =
+    let i = reach l t (ns ++ (number (bytesAt r o w) ∷ [])) r (o + w) in
+    simp (length-append, bigEndian-length) (omega arith)
+reach (fixed n ∷ l) t ns r o =
+    let i = reach l t ns r (o + n) in let m = taken-le r o n in simp length-append (omega arith)
+reach (counted c ∷ l) t ns r o =
+    let n : ℕ = getD ns c 0 in
+    let i = reach l t ns r (o + n) in let m = taken-le r o n in simp length-append (omega arith)
+
+-- A part that is read is no longer than its counts make it.
+pub part-reach : (k : Kind) (r : List ℕ) → size (partIn k r) ≤ madeLength k r
+part-reach k r =
+    let g = frame-fields (isSubsection k) (sectionId k) (tag k) (body k) r in
+    let i = reach (layout k) 0 [] r 0 in
+    let j = rw (g .0, g .1) at i in
+    omega arith
+
+-- The bytes of parts, each without its subsections.
+abbrev pub sizes : List Part → ℕ
+sizes [] = 0
+sizes (p ∷ ps) = size p + sizes ps
+
+-- One part more makes the bytes longer by its size.
+pub sizes-last : (ps : List Part) (p : Part) → sizes (ps ++ p ∷ []) ≡ sizes ps + size p
+sizes-last [] p = omega arith
+sizes-last (q ∷ ps) p = let i = sizes-last ps p in omega arith
+
+-- The place of a subsection lies within the bytes of the subsections.
+pub place-le : (k : Kind) (at : ℕ) (ps : List Part) → placeOf k at ps ≤ at + sizes ps
+place-le k at [] = omega arith
+place-le k at (p ∷ ps) = go (sameKind k (p .kind)) (place-le k (at + size p) ps)
+  where
+    go : (b : Bool) → placeOf k (at + size p) ps ≤ at + size p + sizes ps
+        → elim b as (λ c. ℕ) [ true ↦ at | false ↦ placeOf k (at + size p) ps ] ≤ at + (size p + sizes ps)
+    go true i = omega arith
+    go false i = omega arith
+
+-- Every kind has bytes of its own.
+pub least-pos : (k : Kind) → 1 ≤ least (layout k)
+least-pos k = leb-true 1 (least (layout k)) (every-kind (λ j. leb 1 (least (layout j))) refl k)

@@ -1,0 +1,222 @@
+-- The views of a legal token: each field's bytes, end to end the part's; the refusals for any other row, field or
+-- token.
+use mathlib.Core.Path.{_≡_, refl, sym, ap, ap₂, _∙_}
+use mathlib.Core.Bool.{true}
+use mathlib.Core.List.{List, [], _++_}
+use mathlib.Core.Option.{Option, none, some}
+use Prim.Native.Nat.{ℕ, zero, suc, _+_, _≤_, _<_}
+use native.Mathlib.Omega.{arith}
+use lib.ListN.{length, take, drop, getElem?, length-append, drop-of-length-le}
+use lib.Seq.{drop-drop, drop-at}
+use Rattle.format.specs.Bytes.{Bytes, number, bytesAt}
+use Rattle.format.specs.Layout.{write, Slot, slots, slotBytes}
+use Rattle.format.specs.Layout.{fieldsIn, endOf}
+use Rattle.format.specs.Parts.{layout, Part, writeParts}
+use Rattle.format.specs.Rules.{Section, external, sectionsOf}
+use Rattle.format.specs.Legal.{Legal, joined}
+use Rattle.format.specs.Reading.{Fault, refused, found, reading, partsOf}
+use Rattle.format.specs.Table.{Placed, placed}
+use Rattle.format.specs.Views.{slotOf, fieldAt, bytesThere, view, whetherThere, viewAnswer}
+use Rattle.format.specs.declared.Answer.the-variants.{Accepted, Refused}
+use Rattle.format.specs.declared.Where.{Where}
+use Rattle.format.specs.declared.Where.the-variants.{At, Missing}
+use Rattle.format.proofs.Numbers.{append-inj}
+use Rattle.format.proofs.Slots.{written-laid}
+use Rattle.format.proofs.Unique.{size-any}
+use Rattle.format.proofs.Tests.{found-inj}
+use Rattle.format.proofs.Flat.{choice-flat}
+use Rattle.format.proofs.Accepted.{choice-parts, read-legal, legal-read}
+use Rattle.format.proofs.Elements.{there, nowhere}
+use Rattle.format.proofs.Cutting.{slot-count, slotted, slots-contiguous, slots-tile, slots-inside}
+use Rattle.format.proofs.Rows.{placed-count}
+use Rattle.format.proofs.Tiling.{IsRow, row-of, row-inside}
+
+-- ---- where a field lies
+
+-- A legal token is read as its own parts.
+pub legal-parts : (bs : List ℕ) (l : Legal bs) → partsOf (sectionsOf (l .parts)) ≡ l .parts
+legal-parts bs l =
+    let c = l .form .choice in
+    let parts = choice-parts (external (l .id)) (l .parts) (c .bytes) (c .fit) (l .lawful .fields) in
+    choice-flat (external (l .id)) (l .parts) parts (c .joined)
+
+-- What the reading of a token finds are the parts of a legal token.
+pub read-parts : (bs : List ℕ) (ss : List Section) → Bytes bs → reading true bs ≡ found ss
+    → (l : Legal bs) × (l .parts ≡ partsOf ss)
+read-parts bs ss b e =
+    let l = read-legal bs ss b e in
+    (l, sym (legal-parts bs l) ∙ ap partsOf (found-inj (sym (legal-read bs l) ∙ e)))
+
+-- Where a field lies of a row that may be there.
+abbrev ofRow : List ℕ → ℕ → Option Placed → Where
+ofRow bs field o = elim o as (λ y. Where) [ none ↦ Missing 22 0 | some x ↦ slotOf bs (x .row .offset) (x .part) field ]
+
+-- Where a field lies of a part that begins at this place, its slot given.
+abbrev ofSlot : ℕ → Option Slot → Where
+ofSlot at o = elim o as (λ y. Where) [ none ↦ Missing 22 0 | some s ↦ At (at + s .offset) (s .width) ]
+
+-- A legal token's fields are looked for among the rows of its parts.
+found-field : (bs : List ℕ) (l : Legal bs) (k j : ℕ)
+    → fieldAt bs k j ≡ ofRow bs j (getElem? (placed 8 0 0 (l .parts)) k)
+unfolding fieldAt
+found-field bs l k j =
+    rw (legal-read bs l, fieldAt)
+    (ap (λ (ps : List Part). ofRow bs j (getElem? (placed 8 0 0 ps) k)) (legal-parts bs l))
+
+-- A field of a row of a legal token lies in the slot of its part.
+field-at : (bs : List ℕ) (l : Legal bs) (k j : ℕ) (x : Placed) → IsRow bs l k x
+    → fieldAt bs k j ≡ slotOf bs (x .row .offset) (x .part) j
+field-at bs l k j x e = found-field bs l k j ∙ ap (ofRow bs j) e
+
+-- Of a row that is not there no field lies anywhere.
+no-row : (bs : List ℕ) (l : Legal bs) (k j : ℕ) → length (l .parts) ≤ k → fieldAt bs k j ≡ Missing 22 0
+no-row bs l k j h =
+    let n = placed-count 8 0 0 (l .parts) in
+    found-field bs l k j ∙ ap (ofRow bs j) (nowhere (placed 8 0 0 (l .parts)) k (omega arith))
+
+-- Of an illegal token no field lies anywhere.
+no-token : (bs : List ℕ) (f : Fault) (k j : ℕ) → reading true bs ≡ refused f
+    → fieldAt bs k j ≡ Missing (f .number) (f .part)
+unfolding fieldAt
+no-token bs f k j e = rw (e, fieldAt)
+
+-- ---- the views of a row
+
+-- The slots of a row in the token, its offset the first.
+abbrev pub slotsOf : List ℕ → Placed → List Slot
+slotsOf bs x = slots [] (layout (x .part .kind)) (drop (x .row .offset) bs) 0
+
+-- Cutting a row by its layout gives the fields of its part.
+pub cut-row : (bs : List ℕ) (l : Legal bs) (k : ℕ) (x : Placed) → IsRow bs l k x
+    → fieldsIn (drop (x .row .offset) bs) (slotsOf bs x) ≡ x .part .fields
+cut-row bs l k x e =
+    let r = row-of bs l k x e in
+    written-laid (layout (x .part .kind)) (x .row .length) [] (x .part .fields) (drop (x .row .offset) bs) 0
+    (writeParts (drop (suc k) (l .parts))) (r .fits) (r .bytes) .1
+
+-- The slots of a row end where its part's own bytes end.
+slots-end : (bs : List ℕ) (l : Legal bs) (k : ℕ) (x : Placed) → IsRow bs l k x
+    → endOf 0 (slotsOf bs x) ≡ length (write (x .row .length) (layout (x .part .kind)) (x .part .fields))
+slots-end bs l k x e =
+    let r = row-of bs l k x e in
+    let i = written-laid (layout (x .part .kind)) (x .row .length) [] (x .part .fields) (drop (x .row .offset) bs) 0
+    (writeParts (drop (suc k) (l .parts))) (r .fits) (r .bytes) .2 in
+    omega arith
+
+-- The slots of a row are as many as the fields of its layout.
+slots-count : (bs : List ℕ) (x : Placed) → length (slotsOf bs x) ≡ length (layout (x .part .kind))
+slots-count bs x = slot-count [] (layout (x .part .kind)) (drop (x .row .offset) bs) 0
+
+-- The view of a field is the bytes of its slot, and its partner question is answered 0.
+pub view-slot : (bs : List ℕ) (l : Legal bs) (k j : ℕ) (x : Placed) (s : Slot) → IsRow bs l k x
+    → getElem? (slotsOf bs x) j ≡ some s
+    → (view bs k j ≡ slotBytes (drop (x .row .offset) bs) s) × (viewAnswer bs k j ≡ Accepted 0)
+unfolding view viewAnswer bytesAt
+view-slot bs l k j x s e q =
+    let w : fieldAt bs k j ≡ At (x .row .offset + s .offset) (s .width) =
+    field-at bs l k j x e ∙ ap (ofSlot (x .row .offset)) q in (
+      ap (bytesThere bs) w ∙ ap (take (s .width)) (sym (drop-drop (s .offset) (x .row .offset) bs)),
+      ap whetherThere w,
+    )
+
+-- Every field of the layout has a view.
+pub view-field : (bs : List ℕ) (l : Legal bs) (k j : ℕ) (x : Placed) → IsRow bs l k x
+    → j < length (layout (x .part .kind))
+    → (s : Slot) × (getElem? (slotsOf bs x) j ≡ some s)
+    × (view bs k j ≡ slotBytes (drop (x .row .offset) bs) s)
+    × (viewAnswer bs k j ≡ Accepted 0)
+view-field bs l k j x e h =
+    let n = slots-count bs x in
+    let t = there (slotsOf bs x) j (omega arith) in
+    let v = view-slot bs l k j x (t .0) e (t .1) in
+    (t .0, t .1, v .0, v .1)
+
+-- A place that is missing has no bytes, and the partner question gives its refusal.
+missing : (bs : List ℕ) (k j n p : ℕ) → fieldAt bs k j ≡ Missing n p
+    → (view bs k j ≡ []) × (viewAnswer bs k j ≡ Refused n p)
+unfolding view viewAnswer
+missing bs k j n p e = (ap (bytesThere bs) e, ap whetherThere e)
+
+-- Past the fields of the layout there is no view, and the partner question gives 22.
+pub view-no-field : (bs : List ℕ) (l : Legal bs) (k j : ℕ) (x : Placed) → IsRow bs l k x
+    → length (layout (x .part .kind)) ≤ j
+    → (view bs k j ≡ []) × (viewAnswer bs k j ≡ Refused 22 0)
+view-no-field bs l k j x e h =
+    let n = slots-count bs x in
+    missing bs k j 22 0
+    (field-at bs l k j x e ∙ ap (ofSlot (x .row .offset)) (nowhere (slotsOf bs x) j (omega arith)))
+
+-- Past the rows there is no view, and the partner question gives 22.
+pub view-no-row : (bs : List ℕ) (l : Legal bs) (k j : ℕ) → length (l .parts) ≤ k
+    → (view bs k j ≡ []) × (viewAnswer bs k j ≡ Refused 22 0)
+view-no-row bs l k j h = missing bs k j 22 0 (no-row bs l k j h)
+
+-- Of an illegal token there is no view, and the partner question gives the reading's refusal.
+pub view-refused : (bs : List ℕ) (f : Fault) (k j : ℕ) → reading true bs ≡ refused f
+    → (view bs k j ≡ []) × (viewAnswer bs k j ≡ Refused (f .number) (f .part))
+view-refused bs f k j e = missing bs k j (f .number) (f .part) (no-token bs f k j e)
+
+-- Where a field of a legal token lies, it lies behind the header and ends within the token.
+pub field-inside : (bs : List ℕ) (l : Legal bs) (k j o n : ℕ) → fieldAt bs k j ≡ At o n → (8 ≤ o) × (o + n ≤ length bs)
+field-inside bs l k j o n w = of (getElem? (placed 8 0 0 (l .parts)) k) refl
+  where
+    slot : (x : Placed) → IsRow bs l k x → (m : Option Slot) → getElem? (slotsOf bs x) j ≡ m
+        → ofSlot (x .row .offset) m ≡ At o n → (8 ≤ o) × (o + n ≤ length bs)
+    slot x e none g h = absurd (let z : _≡_ {A = ℕ} 0 1 = cc in omega arith)
+    slot x e (some s) g h =
+        let run = slots-contiguous [] (layout (x .part .kind)) (drop (x .row .offset) bs) 0 in
+        let i = slots-inside 0 (slotsOf bs x) j s run g in
+        let f = slots-end bs l k x e in
+        let z = size-any (layout (x .part .kind)) (x .row .length) 0 (x .part .fields) in
+        let r = row-inside bs l k x e in
+        let a : x .row .offset + s .offset ≡ o = cc in
+        let b : s .width ≡ n = cc in
+        (omega arith, omega arith)
+
+    of : (m : Option Placed) → getElem? (placed 8 0 0 (l .parts)) k ≡ m → (8 ≤ o) × (o + n ≤ length bs)
+    of none e =
+        let h : At o n ≡ Missing 22 0 = sym w ∙ found-field bs l k j ∙ ap (ofRow bs j) e in
+        absurd (let z : _≡_ {A = ℕ} 0 1 = cc in omega arith)
+    of (some x) e = slot x e (getElem? (slotsOf bs x) j) refl (sym (field-at bs l k j x e) ∙ w)
+
+-- ---- the views of a row, laid end to end
+
+-- The views of a row's fields from number j on, n of them, laid end to end.
+abbrev pub viewsFrom : List ℕ → ℕ → ℕ → ℕ → List ℕ
+viewsFrom bs k j zero = []
+viewsFrom bs k j (suc n) = view bs k j ++ viewsFrom bs k (suc j) n
+
+-- The views of the fields from j on are the bytes of the slots from j on.
+views-slotted : (bs : List ℕ) (l : Legal bs) (k : ℕ) (x : Placed) → IsRow bs l k x → (n j : ℕ)
+    → j + n ≡ length (slotsOf bs x)
+    → viewsFrom bs k j n ≡ slotted (drop (x .row .offset) bs) (drop j (slotsOf bs x))
+views-slotted bs l k x e zero j h =
+    let m : length (slotsOf bs x) ≤ j = omega arith in
+    ap (slotted (drop (x .row .offset) bs)) (sym (drop-of-length-le (slotsOf bs x) m))
+views-slotted bs l k x e (suc n) j h =
+    let t = there (slotsOf bs x) j (omega arith) in
+    let i = views-slotted bs l k x e n (suc j) (omega arith) in
+    ap₂ (λ (y z : List ℕ). y ++ z) (view-slot bs l k j x (t .0) e (t .1) .0) i
+    ∙ ap (slotted (drop (x .row .offset) bs)) (sym (t .2))
+
+-- The views of all fields of a row, laid end to end, are its part's own bytes: nothing overlaps or is left over.
+pub views-tile : (bs : List ℕ) (l : Legal bs) (k : ℕ) (x : Placed) → IsRow bs l k x
+    → viewsFrom bs k 0 (length (layout (x .part .kind)))
+    ≡ write (x .row .length) (layout (x .part .kind)) (x .part .fields)
+views-tile bs l k x e =
+    let row = row-of bs l k x e in
+    let r : List ℕ = drop (x .row .offset) bs in
+    let w : List ℕ = write (x .row .length) (layout (x .part .kind)) (x .part .fields) in
+    let z : List ℕ = writeParts (drop (suc k) (l .parts)) in
+    let ss : List Slot = slotsOf bs x in
+    let len : endOf 0 ss ≡ length w = slots-end bs l k x e in
+    let run = slots-contiguous [] (layout (x .part .kind)) r 0 in
+    let rest : drop (endOf 0 ss) r ≡ z =
+    ap₂ (λ (n : ℕ) (y : List ℕ). drop n y) len (row .bytes) ∙ drop-at w z (length w) refl in
+    let tile : slotted r ss ++ z ≡ w ++ z =
+    ap (λ (y : List ℕ). slotted r ss ++ y) (sym rest) ∙ slots-tile r 0 ss run ∙ row .bytes in
+    let ll : length (slotted r ss) + length z ≡ length w + length z =
+    sym (length-append (slotted r ss) z) ∙ ap length tile ∙ length-append w z in
+    let n = slots-count bs x in
+    views-slotted bs l k x e (length (layout (x .part .kind))) 0 (omega arith)
+    ∙ append-inj (slotted r ss) w (omega arith) tile .0

@@ -1,0 +1,159 @@
+-- The walk over a legal token: from byte 8 its records are the rows in order, then comes the end; 22 at any other
+-- place.
+use mathlib.Core.Path.{_≡_, refl, sym, ap, _∙_, subst}
+use mathlib.Core.Bool.{Bool, true, false}
+use mathlib.Core.List.{List, [], _∷_}
+use mathlib.Core.Option.{some}
+use Prim.Native.Nat.{ℕ, zero, suc, _+_, _≤_, _<_}
+use native.Mathlib.Omega.{arith}
+use lib.Dec.{ltb}
+use lib.ListN.{length, getElem?}
+use borrow.Author.Tests.{ltb-true, ltb-false}
+use Rattle.format.specs.Parts.{Part, size}
+use Rattle.format.specs.Legal.{Legal}
+use Rattle.format.specs.Reading.{Fault, refused, reading}
+use Rattle.format.specs.Table.{Placed, placed, rows}
+use Rattle.format.specs.Views.{stepIn, stepAt, placeBehind}
+use Rattle.format.specs.declared.Row.{Row}
+use Rattle.format.specs.declared.Step.{Step}
+use Rattle.format.specs.declared.Step.the-variants.{Record, End, Stopped}
+use Rattle.format.proofs.Unique.{size-pos}
+use Rattle.format.proofs.Accepted.{legal-read}
+use Rattle.format.proofs.Rows.{placed-count}
+use Rattle.format.proofs.Tiling.{Tiles, rows-tile, IsRow, row-of}
+use Rattle.format.proofs.Stepping.{between, rising, next-tile, last-tile, rowsOf, step-row, step-end}
+use Rattle.format.proofs.Stepping.{step-elsewhere}
+use Rattle.format.proofs.Viewing.{legal-parts}
+
+-- ---- one step
+
+-- A step over a legal token is one over the rows of its parts.
+step-legal : (bs : List ℕ) (l : Legal bs) (at : ℕ) → stepAt bs at ≡ stepIn (length bs) (rows (l .parts)) at
+unfolding stepAt
+step-legal bs l at =
+    rw (legal-read bs l, stepAt) (ap (λ (ps : List Part). stepIn (length bs) (rows ps) at) (legal-parts bs l))
+
+-- At a row's place the step gives the row, and the place where its part's own bytes end.
+pub step-at-row : (bs : List ℕ) (l : Legal bs) (k : ℕ) (x : Placed) → IsRow bs l k x
+    → stepAt bs (x .row .offset) ≡ Record (x .row) (x .row .offset + size (x .part))
+step-at-row bs l k x e =
+    step-legal bs l (x .row .offset) ∙ step-row 8 (length bs) (placed 8 0 0 (l .parts)) k x (rows-tile bs l) e
+
+-- The first row begins at byte 8.
+pub first-place : (bs : List ℕ) (l : Legal bs) (x : Placed) → IsRow bs l 0 x → x .row .offset ≡ 8
+first-place bs l x e = let p = row-of bs l 0 x e .place in omega arith
+
+-- The next row begins where a row's part ends, so the step at a row gives it and the next row's place.
+pub step-next : (bs : List ℕ) (l : Legal bs) (k : ℕ) (x y : Placed) → IsRow bs l k x → IsRow bs l (suc k) y
+    → stepAt bs (x .row .offset) ≡ Record (x .row) (y .row .offset)
+step-next bs l k x y e f =
+    let n = next-tile 8 (length bs) (placed 8 0 0 (l .parts)) k x y (rows-tile bs l) e f in
+    step-at-row bs l k x e ∙ ap (λ (m : ℕ). Record (x .row) m) (sym n)
+
+-- The last row's part ends at the token's length, so the step there gives it and the length.
+pub step-last : (bs : List ℕ) (l : Legal bs) (k : ℕ) (x : Placed) → IsRow bs l k x → suc k ≡ length (l .parts)
+    → stepAt bs (x .row .offset) ≡ Record (x .row) (length bs)
+step-last bs l k x e h =
+    let n : suc k ≡ length (placed 8 0 0 (l .parts)) = h ∙ sym (placed-count 8 0 0 (l .parts)) in
+    step-at-row bs l k x e
+    ∙ ap (λ (m : ℕ). Record (x .row) m) (last-tile 8 (length bs) (placed 8 0 0 (l .parts)) k x (rows-tile bs l) e n)
+
+-- At the token's length the step gives the end.
+pub step-at-end : (bs : List ℕ) (l : Legal bs) → stepAt bs (length bs) ≡ End
+step-at-end bs l = step-legal bs l (length bs) ∙ step-end 8 (length bs) (placed 8 0 0 (l .parts)) (rows-tile bs l)
+
+-- At any other place the step gives 22.
+pub step-nowhere : (bs : List ℕ) (l : Legal bs) (at : ℕ)
+    → ((k : ℕ) (x : Placed) → IsRow bs l k x → at ≡ x .row .offset → ⊥) → (at ≡ length bs → ⊥)
+    → stepAt bs at ≡ Stopped 22 0
+step-nowhere bs l at h n = step-legal bs l at ∙ step-elsewhere (length bs) (placed 8 0 0 (l .parts)) at h n
+
+-- In an illegal token every step gives the reading's refusal.
+pub step-refused : (bs : List ℕ) (f : Fault) (at : ℕ) → reading true bs ≡ refused f
+    → stepAt bs at ≡ Stopped (f .number) (f .part)
+unfolding stepAt
+step-refused bs f at e = rw (e, stepAt)
+
+-- ---- the places of the rows
+
+-- The rows' places rise strictly, each at least by the part's own bytes, and lie below the token's length.
+pub places-rise : (bs : List ℕ) (l : Legal bs) (j k : ℕ) (x y : Placed) → j < k → IsRow bs l j x → IsRow bs l k y
+    → (x .row .offset < y .row .offset)
+    × (x .row .offset + size (x .part) ≤ y .row .offset)
+    × (y .row .offset < length bs)
+places-rise bs l j k x y h e f =
+    let t = rows-tile bs l in
+    let r = rising 8 (length bs) (placed 8 0 0 (l .parts)) j k x y t h e f in
+    let b = between 8 (length bs) (placed 8 0 0 (l .parts)) k y t f in
+    let p = size-pos (x .part) in
+    let q = size-pos (y .part) in
+    (omega arith, r, omega arith)
+
+-- No two rows begin at one place.
+pub one-row : (bs : List ℕ) (l : Legal bs) (j k : ℕ) (x y : Placed) → IsRow bs l j x → IsRow bs l k y
+    → x .row .offset ≡ y .row .offset → j ≡ k
+one-row bs l j k x y e f q = go (ltb j k) (ltb k j) refl refl
+  where
+    go : (b c : Bool) → ltb j k ≡ b → ltb k j ≡ c → j ≡ k
+    go true c v w = let r = places-rise bs l j k x y (ltb-true j k v) e f in absurd (omega arith)
+    go false true v w = let r = places-rise bs l k j y x (ltb-true k j w) f e in absurd (omega arith)
+    go false false v w = let a = ltb-false j k v in let c = ltb-false k j w in omega arith
+
+-- ---- the walk
+
+-- The records from a place on, following each one's next place, in d turns at most.
+abbrev pub walk : ℕ → List ℕ → ℕ → List Row
+walk zero bs at = []
+walk (suc d) bs at = elim (stepAt bs at) [ Record r next ↦ r ∷ walk d bs next | End ↦ [] | Stopped n p ↦ [] ]
+
+-- The place that d steps lead to.
+abbrev pub walkPlace : ℕ → List ℕ → ℕ → ℕ
+walkPlace zero bs at = at
+walkPlace (suc d) bs at = walkPlace d bs (placeBehind at (stepAt bs at))
+
+-- The steps at these rows give them, with the places where their parts end.
+abbrev Steps : List ℕ → List Placed → Type 0
+Steps bs xs = (k : ℕ) (x : Placed) → getElem? xs k ≡ some x
+    → stepAt bs (x .row .offset) ≡ Record (x .row) (x .row .offset + size (x .part))
+
+-- A turn of the walk that gives a record.
+walk-record : (d : ℕ) (bs : List ℕ) (at : ℕ) (r : Row) (next : ℕ) → stepAt bs at ≡ Record r next
+    → (walk (suc d) bs at ≡ r ∷ walk d bs next) × (walkPlace (suc d) bs at ≡ walkPlace d bs next)
+walk-record d bs at r next e = (rw (e, walk), ap (λ (s : Step). walkPlace d bs (placeBehind at s)) e)
+
+-- At the end the walk stays.
+walk-end : (d : ℕ) (bs : List ℕ) → stepAt bs (length bs) ≡ End
+    → (walk d bs (length bs) ≡ []) × (walkPlace d bs (length bs) ≡ length bs)
+walk-end zero bs e = (refl, refl)
+walk-end (suc d) bs e =
+    (rw (e, walk), ap (λ (s : Step). walkPlace d bs (placeBehind (length bs) s)) e ∙ walk-end d bs e .1)
+
+-- The walk over rows that lie one behind another up to the token's end gives them, and ends there.
+walk-rows : (bs : List ℕ) (d at : ℕ) (xs : List Placed) → Tiles at xs (length bs) → Steps bs xs
+    → stepAt bs (length bs) ≡ End → length xs ≤ d → (walk d bs at ≡ rowsOf xs) × (walkPlace d bs at ≡ length bs)
+walk-rows bs d at [] t s e h =
+    subst (λ (a : ℕ). (walk d bs a ≡ []) × (walkPlace d bs a ≡ length bs)) (sym t) (walk-end d bs e)
+walk-rows bs zero at (x ∷ xs) t s e h = absurd (omega arith)
+walk-rows bs (suc d) at (x ∷ xs) t s e h =
+    let n : ℕ = at + size (x .part) in
+    let f : stepAt bs at ≡ Record (x .row) n =
+    subst (λ (a : ℕ). stepAt bs a ≡ Record (x .row) (a + size (x .part))) (t .0) (s 0 x refl) in
+    let w = walk-record d bs at (x .row) n f in
+    let i = walk-rows bs d n xs (t .1) (λ k. s (suc k)) e (omega arith) in
+    (w .0 ∙ ap (λ (rs : List Row). x .row ∷ rs) (i .0), w .1 ∙ i .1)
+
+-- The walk of a legal token from byte 8, in as many turns as it has rows or more, gives its rows in order, and leads to
+-- the token's length.
+pub walk-legal : (bs : List ℕ) (l : Legal bs) (d : ℕ) → length (l .parts) ≤ d
+    → (walk d bs 8 ≡ rows (l .parts)) × (walkPlace d bs 8 ≡ length bs)
+walk-legal bs l d h =
+    let n = placed-count 8 0 0 (l .parts) in
+    walk-rows bs d 8 (placed 8 0 0 (l .parts)) (rows-tile bs l) (step-at-row bs l) (step-at-end bs l) (omega arith)
+
+-- One turn more than there are rows: the walk gives the rows in order, and then the end.
+pub walk-all : (bs : List ℕ) (l : Legal bs)
+    → (walk (suc (length (l .parts))) bs 8 ≡ rows (l .parts)) × (stepAt bs (walkPlace (length (l .parts)) bs 8) ≡ End)
+walk-all bs l = (
+  walk-legal bs l (suc (length (l .parts))) (omega arith) .0,
+  ap (stepAt bs) (walk-legal bs l (length (l .parts)) (omega arith) .1) ∙ step-at-end bs l,
+)
