@@ -10,8 +10,8 @@ use lib.Seq.{take-at, take-all, length-take-le}
 use borrow.Author.Tests.{eq-eqb, eqb-true, le-leb, leb-true}
 use Rattle.format.specs.Bytes.{All, Bytes, bytesAt, allZero}
 use Rattle.format.specs.Layout.{fits}
-use Rattle.format.specs.Parts.{Kind, information, layout, Part, writeParts, written, joins, Choice, Stateable, WrittenForm}
-use Rattle.format.specs.Rules.{Check, external, checks, Section, sectionsOf, mayBothStand, otherKind, maskCovers, hasRequired}
+use Rattle.format.specs.Parts.{Kind, information, protection, layout, Part, writeParts, written, joins, Choice, Stateable, WrittenForm}
+use Rattle.format.specs.Rules.{Check, external, checks, Section, sectionsOf, has, mayBothStand, otherKind, maskCovers, hasRequired}
 use Rattle.format.specs.Legal.{Pairwise, knownId, Lawful, Complete, Legal}
 use Rattle.format.specs.Reading.{found, idOf, stated, tested, kindBefore, sections, lengthAllowed, headerChecks, reading, partsOf}
 use Rattle.format.proofs.Numbers.{bytes-take, bytes-drop}
@@ -185,6 +185,19 @@ read-legal bs ss b e =
       lawful = good-lawful true i ss (r .known) (r .good);
       complete = complete;
     }
+
+-- What is written from a choice that keeps the rules, and is short enough, is legal: that it has 80 bytes follows.
+pub written-legal : (i : ℕ) (ps : List Part) (bs : List ℕ) → WrittenForm i ps bs → length bs ≤ 3500 → Lawful i ps → Complete ps → Legal bs
+written-legal i ps bs w h l c =
+    let x : Bool = external i in
+    let parts = choice-parts x ps (w .choice .bytes) (w .choice .fit) (l .fields) in
+    let flat = choice-flat x ps parts (w .choice .joined) in
+    let informed = has-section information ps refl (c .information) in
+    let protected : has protection ps ≡ true = rw flat at (has-protection (sectionsOf ps) (c .within) informed) in
+    let long = required-long ps (w .choice .fit) (c .information) protected in
+    let lw = written-length i ps in
+    let ls = ap length (w .same) in
+    record { id = i; parts = ps; form = w; atLeast = omega arith; atMost = h; lawful = l; complete = c }
 
 -- Every legal token is accepted, as the sections of its parts.
 pub legal-read : (bs : List ℕ) (l : Legal bs) → reading true bs ≡ found (sectionsOf (l .parts))

@@ -16,6 +16,7 @@ use Rattle.format.proofs.Numbers.{bytes-append, bytes-bigEndian, bytes-
 use Rattle.format.proofs.Finding.{and-split, and-join}
 use Rattle.format.proofs.Tests.{Hold}
 use Rattle.format.proofs.Unique.{size-any, written-length}
+use Rattle.format.proofs.Reaching.{sizes, sizes-written}
 use Rattle.format.proofs.Grouping.{is-true, is-false, all-split}
 
 -- ---- bytes and lengths
@@ -52,18 +53,7 @@ written-bytes i ps h b =
     bytes-append (write (8 + length (writeParts ps)) header ((i ∷ []) ∷ [])) (writeParts ps)
     (write-bytes header (8 + length (writeParts ps)) ((i ∷ []) ∷ []) ((h, tt), tt)) (parts-bytes ps b)
 
--- The sizes of parts, added up.
-abbrev pub sizes : List Part → ℕ
-sizes [] = 0
-sizes (p ∷ ps) = size p + sizes ps
-
--- Parts take as many bytes as their sizes make.
-pub parts-size : (ps : List Part) → length (writeParts ps) ≡ sizes ps
-parts-size [] = refl
-parts-size (p ∷ ps) =
-    length-append (write (span p ps) (layout (p .kind)) (p .fields)) (writeParts ps)
-    ∙ ap₂ (λ (m n : ℕ). m + n) (size-any (layout (p .kind)) (span p ps) 0 (p .fields)) (parts-size ps)
-
+-- Sizes of two lists.
 pub sizes-join : (ps qs : List Part) → sizes (ps ++ qs) ≡ sizes ps + sizes qs
 sizes-join [] qs = omega arith
 sizes-join (p ∷ ps) qs = let i = sizes-join ps qs in omega arith
@@ -73,8 +63,8 @@ pub written-more : (i : ℕ) (ps : List Part) (p : Part) → length (written i (
 written-more i ps p =
     let a = written-length i (ps ++ p ∷ []) in
     let b = written-length i ps in
-    let c = parts-size (ps ++ p ∷ []) in
-    let d = parts-size ps in
+    let c = sizes-written (ps ++ p ∷ []) in
+    let d = sizes-written ps in
     let e = sizes-join ps (p ∷ []) in
     omega arith
 
@@ -83,8 +73,8 @@ pub beginning-le : (i : ℕ) (ps qs : List Part) → length (written i ps) ≤ l
 beginning-le i ps qs =
     let a = written-length i (ps ++ qs) in
     let b = written-length i ps in
-    let c = parts-size (ps ++ qs) in
-    let d = parts-size ps in
+    let c = sizes-written (ps ++ qs) in
+    let d = sizes-written ps in
     let e = sizes-join ps qs in
     omega arith
 

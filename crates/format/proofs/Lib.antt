@@ -16,11 +16,11 @@ pub mod Header
 pub mod Flat
 pub mod Sizes
 pub mod Accepted
+pub mod Reaching
 pub mod Beginnings
 pub mod Writing
 pub mod Changes
 pub mod Additions
-pub mod Reaching
 pub mod Numbering
 pub mod Rows
 pub mod Elements
@@ -30,3 +30,5 @@ pub mod Cutting
 pub mod Viewing
 pub mod Stepping
 pub mod Walking
+pub mod Tables
+pub mod Main

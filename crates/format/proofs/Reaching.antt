@@ -10,7 +10,9 @@ use borrow.Author.Tests.{leb-true}
 use Rattle.format.specs.Bytes.{number, bytesAt}
 use Rattle.format.specs.Layout.{Item, code, zeros, own, count, fixed, counted}
 use Rattle.format.specs.Layout.{least, write, slots, fieldsIn, endOf}
-use Rattle.format.specs.Parts.{Kind, sectionId, tag, body, isSubsection, layout, sameKind, Part, size}
+use Rattle.format.specs.Layout.{write}
+use Rattle.format.proofs.Unique.{size-any}
+use Rattle.format.specs.Parts.{Kind, sectionId, tag, body, isSubsection, layout, sameKind, Part, size, span, writeParts}
 use Rattle.format.specs.Reading.{madeLength, partIn, placeOf}
 use Rattle.format.proofs.Numbers.{bigEndian-length}
 use Rattle.format.proofs.Finding.{every-kind}
@@ -50,6 +52,15 @@ part-reach k r =
 abbrev pub sizes : List Part → ℕ
 sizes [] = 0
 sizes (p ∷ ps) = size p + sizes ps
+
+-- The bytes of parts in a row are as many as their sizes add up to.
+pub sizes-written : (ps : List Part) → length (writeParts ps) ≡ sizes ps
+sizes-written [] = refl
+sizes-written (p ∷ ps) =
+    let i = sizes-written ps in
+    let n = size-any (layout (p .kind)) (span p ps) 0 (p .fields) in
+    let l = length-append (write (span p ps) (layout (p .kind)) (p .fields)) (writeParts ps) in
+    omega arith
 
 -- One part more makes the bytes longer by its size.
 pub sizes-last : (ps : List Part) (p : Part) → sizes (ps ++ p ∷ []) ≡ sizes ps + size p

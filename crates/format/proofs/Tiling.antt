@@ -18,7 +18,7 @@ use Rattle.format.proofs.Fitting.{Fits}
 use Rattle.format.proofs.Slots.{front-at}
 use Rattle.format.proofs.Unique.{size-any, size-pos, written-length, FitParts, fit-parts}
 use Rattle.format.proofs.Grouping.{is-true, is-false, span-sub, span-section, span-le}
-use Rattle.format.proofs.Reaching.{sizes}
+use Rattle.format.proofs.Reaching.{sizes-written, sizes}
 use Rattle.format.proofs.Elements.{some-inj}
 
 -- ---- the rows lie one behind another
@@ -27,15 +27,6 @@ use Rattle.format.proofs.Elements.{some-inj}
 abbrev pub Tiles : ℕ → List Placed → ℕ → Type 0
 Tiles at [] e = at ≡ e
 Tiles at (x ∷ xs) e = (x .row .offset ≡ at) × Tiles (at + size (x .part)) xs e
-
--- The bytes of parts in a row are as many as their sizes add up to.
-pub sizes-written : (ps : List Part) → length (writeParts ps) ≡ sizes ps
-sizes-written [] = refl
-sizes-written (p ∷ ps) =
-    let i = sizes-written ps in
-    let n = size-any (layout (p .kind)) (span p ps) 0 (p .fields) in
-    let l = length-append (write (span p ps) (layout (p .kind)) (p .fields)) (writeParts ps) in
-    omega arith
 
 -- The rows of parts from place `at` on end where the parts' bytes end.
 pub placed-tile : (at n o : ℕ) (ps : List Part) (e : ℕ) → at + sizes ps ≡ e → Tiles at (placed at n o ps) e

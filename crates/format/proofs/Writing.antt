@@ -221,12 +221,12 @@ run-adds (q ∷ qs) i ps d w c l h k =
 
 -- ---- finishing
 
-told-accepted : {A : Type 0} (f : A → ℕ) (o : Outcome A) (n : ℕ) → told f o ≡ Accepted n → (a : A) × (o ≡ found a) × (f a ≡ n)
+pub told-accepted : {A : Type 0} (f : A → ℕ) (o : Outcome A) (n : ℕ) → told f o ≡ Accepted n → (a : A) × (o ≡ found a) × (f a ≡ n)
 unfolding told
 told-accepted f (refused g) n e = absurd (let z : _≡_ {A = ℕ} 0 1 = cc in omega arith)
 told-accepted f (found a) n e = (a, refl, cc)
 
-told-found : {A : Type 0} (f : A → ℕ) {o : Outcome A} {a : A} → o ≡ found a → told f o ≡ Accepted (f a)
+pub told-found : {A : Type 0} (f : A → ℕ) {o : Outcome A} {a : A} → o ≡ found a → told f o ≡ Accepted (f a)
 unfolding told
 told-found f e = rw e
 

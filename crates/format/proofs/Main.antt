@@ -1,0 +1,219 @@
+-- The theorems about the definitions, each beside the sentence that it answers; the proofs stand in the files named by
+-- the `use` lines. Lists of numbers below 256 (`Bytes`) are lists of bytes. Assumes nothing.
+use mathlib.Core.Path.{_≡_, refl, sym, ap, ap₂, _∙_, subst}
+use mathlib.Core.Bool.{Bool, true, false}
+use mathlib.Core.List.{List, [], _∷_, _++_}
+use mathlib.Core.Logic.{_↔_, _⊎_, inl, inr}
+use Prim.Native.Nat.{ℕ, zero, suc, _+_, _*_, _≤_, _<_}
+use native.Mathlib.Omega.{arith}
+use lib.ListN.{length, take, drop, length-append}
+use Rattle.format.specs.Bytes.{All, Bytes, bytesAt}
+use Rattle.format.specs.Layout.{write, slots, fieldsIn}
+use Rattle.format.specs.Parts.{Kind, isSubsection, layout, Part, size, written, writeParts, Choice, WrittenForm}
+use Rattle.format.specs.Rules.{Section}
+use Rattle.format.specs.Legal.{Lawful, Complete, Legal, ruleCount, rulesOfAll, joined}
+use Rattle.format.specs.Reading.{Outcome, refused, found, Fault, stated, reading, rowCount, partsOf, told, answer}
+use Rattle.format.specs.Table.{Placed, placed, rows, columns, tableOf, tableAnswer, tableAfter}
+use Rattle.format.specs.Views.{view, viewAnswer, stepAt}
+use Rattle.format.specs.Writer.{draftAfter, start, addition, finish}
+use Rattle.format.specs.declared.Answer.{Answer}
+use Rattle.format.specs.declared.Answer.the-variants.{Accepted, Refused}
+use Rattle.format.specs.declared.Step.the-variants.{Record, End, Stopped}
+use Rattle.format.proofs.Accepted as Accepting
+use Rattle.format.proofs.Numbering as Numbering
+use Rattle.format.proofs.Unique as Unique
+use Rattle.format.proofs.Runs as Runs
+use Rattle.format.proofs.Rows as Rows
+use Rattle.format.proofs.Tables as Tables
+use Rattle.format.proofs.Tiling as Tiling
+use Rattle.format.proofs.Tiling.{IsRow, Tiles}
+use Rattle.format.proofs.Owners as Owners
+use Rattle.format.proofs.Viewing as Viewing
+use Rattle.format.proofs.Viewing.{viewsFrom, slotsOf}
+use Rattle.format.proofs.Walking as Walking
+use Rattle.format.proofs.Walking.{walk, walkPlace}
+use Rattle.format.proofs.Writing as Writing
+use Rattle.format.proofs.Writing.{additions}
+use Rattle.format.proofs.Changes.{restate, placeBehind}
+use Rattle.format.proofs.Additions as Additions
+use Rattle.format.proofs.Examples as Examples
+
+-- ---- demand 2, of the definitions
+
+-- "A buffer is accepted exactly when it is a legal token as 01 defines it [..]; the rows [..] are those of its sections and
+-- subsections": the answer is 0 with n exactly when the bytes are a legal token with n rows.
+pub accepted-exactly-when-legal : (bs : List ℕ) (n : ℕ) → Bytes bs
+    → (answer bs ≡ Accepted n) ↔ ((l : Legal bs) × (n ≡ length (rows (l .parts))))
+accepted-exactly-when-legal bs n b = Tables.accepted-exactly bs n b
+
+-- "[..] and the lent table has room": reading into a table accepts exactly the legal tokens whose rows have room in it.
+pub accepted-into-table : (bs t : List ℕ) (n : ℕ) → Bytes bs
+    → (tableAnswer bs t ≡ Accepted n) ↔ ((l : Legal bs) × (n ≡ length (rows (l .parts))) × (columns * n ≤ length t))
+accepted-into-table bs t n b = Tables.table-exactly bs t n b
+
+-- The table then holds the rows of the token's parts, and behind them what it held.
+pub table-holds-rows : (bs t : List ℕ) (l : Legal bs) → columns * length (rows (l .parts)) ≤ length t
+    → tableAfter bs t ≡ tableOf (rows (l .parts)) ++ drop (columns * length (rows (l .parts))) t
+table-holds-rows bs t l h = Tables.table-holds bs t l h
+
+-- "23 is given exactly when the token is legal and four times the rows exceeds the table; its second number is the rows
+-- needed", and the table holds what it held.
+pub no-room : (bs t : List ℕ) (n : ℕ) → Bytes bs
+    → (tableAnswer bs t ≡ Refused 23 n) ↔ ((l : Legal bs) × (n ≡ length (rows (l .parts))) × (length t < columns * n))
+no-room bs t n b = Tables.no-room bs t n b
+
+-- A refused reading leaves the table as it was.
+pub table-kept : (bs t : List ℕ) (n p : ℕ) → tableAnswer bs t ≡ Refused n p → tableAfter bs t ≡ t
+table-kept bs t n p e = Tables.table-kept bs t n p e
+
+-- "each once, in order": the rows' own bytes tile the token from byte 8 to its end.
+pub rows-tile : (bs : List ℕ) (l : Legal bs) → Tiles 8 (placed 8 0 0 (l .parts)) (length bs)
+rows-tile bs l = Tiling.rows-tile bs l
+
+-- A row's offset and length are those of its part with its subsections, in the token's own bytes.
+pub row-bytes : (bs : List ℕ) (l : Legal bs) (k : ℕ) (x : Placed) → IsRow bs l k x
+    → bytesAt bs (x .row .offset) (x .row .length) ≡ writeParts (x .part ∷ Tiling.subsOf (x .part) (drop (suc k) (l .parts)))
+row-bytes bs l k x r = Tiling.row-bytes bs l k x r
+
+-- Refusal and legality exclude each other.
+pub legal-not-refused : (bs : List ℕ) → Legal bs → (n p : ℕ) → answer bs ≡ Refused n p → ⊥
+legal-not-refused bs l n p e = Tables.legal-not-refused bs l n p e
+
+-- "Any bytes may come in, and every call ends with an answer": an acceptance, or a refusal with a number from 1 to 21.
+pub every-answer : (bs : List ℕ) → ((n : ℕ) × (answer bs ≡ Accepted n)) ⊎ ((n : ℕ) × (p : ℕ) × (answer bs ≡ Refused n p) × (1 ≤ n) × (n ≤ 21))
+every-answer bs = Tables.every-answer bs
+
+-- "A legal token never has more than 300 rows; that is to be shown."
+pub at-most-300-rows : (bs : List ℕ) (l : Legal bs) → length (rows (l .parts)) ≤ 300
+at-most-300-rows bs l = subst (λ (n : ℕ). n ≤ 300) (sym (Rows.row-count (l .parts))) (Rows.few-rows bs l)
+
+-- ---- demand 3
+
+-- "each legal token is the written form, as 01 builds it, of one choice of identifier and parts and of no other."
+pub one-choice-and-no-other : (bs : List ℕ) (l : Legal bs)
+    → WrittenForm (l .id) (l .parts) bs × ((i : ℕ) (ps : List Part) → WrittenForm i ps bs → (i ≡ l .id) × (ps ≡ l .parts))
+one-choice-and-no-other bs l = (l .form, λ i ps w. Unique.one-choice i (l .id) ps (l .parts) bs w (l .form))
+
+-- What is written from a choice that keeps the rules is legal; that it has 80 bytes follows.
+pub written-from-rules-is-legal : (i : ℕ) (ps : List Part) (bs : List ℕ) → WrittenForm i ps bs → length bs ≤ 3500 → Lawful i ps → Complete ps
+    → Legal bs
+written-from-rules-is-legal i ps bs w h l c = Accepting.written-legal i ps bs w h l c
+
+-- "No legal token is the beginning of a longer legal one."
+pub no-longer-legal-token : (t r : List ℕ) → Legal t → Legal (t ++ r) → r ≡ []
+no-longer-legal-token t r a b = Runs.prefix-free t r a b
+
+-- "Any two finite lists of legal tokens, the empty list among them, give the same bytes when laid end to end exactly when
+-- they are the same list, the same tokens in the same order."
+pub one-cutting : (ts us : List (List ℕ)) → All Legal ts → All Legal us → (joined ts ≡ joined us) ↔ (ts ≡ us)
+one-cutting ts us a b = Runs.one-cutting ts us a b
+
+-- "So a run joined from legal tokens has one cutting and one count of rules", the sum over its tokens.
+pub one-count-of-rules : (ts us : List (List ℕ)) (a : All Legal ts) (b : All Legal us) → joined ts ≡ joined us
+    → rulesOfAll ts a ≡ rulesOfAll us b
+one-count-of-rules ts us a b e = Runs.one-count ts us a b e
+
+-- ---- views and the walk
+
+-- "A view is the part of the caller's own bytes that a field occupies": cutting a row by its layout gives the fields of
+-- the part that it came from.
+pub row-gives-its-fields : (bs : List ℕ) (l : Legal bs) (k : ℕ) (x : Placed) → IsRow bs l k x
+    → fieldsIn (drop (x .row .offset) bs) (slotsOf bs x) ≡ x .part .fields
+row-gives-its-fields bs l k x r = Viewing.cut-row bs l k x r
+
+-- The views of all fields of a row, laid end to end, are its part's own bytes: nothing overlaps or is left over.
+pub views-tile-the-row : (bs : List ℕ) (l : Legal bs) (k : ℕ) (x : Placed) → IsRow bs l k x
+    → viewsFrom bs k 0 (length (layout (x .part .kind))) ≡ write (x .row .length) (layout (x .part .kind)) (x .part .fields)
+views-tile-the-row bs l k x r = Viewing.views-tile bs l k x r
+
+-- "22: no such row or field; place 0", and the view is empty.
+pub no-such-field : (bs : List ℕ) (l : Legal bs) (k j : ℕ) (x : Placed) → IsRow bs l k x → length (layout (x .part .kind)) ≤ j
+    → (view bs k j ≡ []) × (viewAnswer bs k j ≡ Refused 22 0)
+no-such-field bs l k j x r h = Viewing.view-no-field bs l k j x r h
+
+pub no-such-row : (bs : List ℕ) (l : Legal bs) (k j : ℕ) → length (l .parts) ≤ k → (view bs k j ≡ []) × (viewAnswer bs k j ≡ Refused 22 0)
+no-such-row bs l k j h = Viewing.view-no-row bs l k j h
+
+-- "Here and in the walk an illegal token refuses first, with its own number."
+pub illegal-view : (bs : List ℕ) (f : Fault) (k j : ℕ) → reading true bs ≡ refused f
+    → (view bs k j ≡ []) × (viewAnswer bs k j ≡ Refused (f .number) (f .part))
+illegal-view bs f k j e = Viewing.view-refused bs f k j e
+
+pub illegal-step : (bs : List ℕ) (f : Fault) (at : ℕ) → reading true bs ≡ refused f → stepAt bs at ≡ Stopped (f .number) (f .part)
+illegal-step bs f at e = Walking.step-refused bs f at e
+
+-- From place 8, following the next places, the records are the rows of the table in order, and then the end.
+pub walk-gives-the-rows : (bs : List ℕ) (l : Legal bs)
+    → (walk (suc (length (l .parts))) bs 8 ≡ rows (l .parts)) × (stepAt bs (walkPlace (length (l .parts)) bs 8) ≡ End)
+walk-gives-the-rows bs l = Walking.walk-all bs l
+
+-- "the end at the token's length, 22 at any other place."
+pub end-at-the-length : (bs : List ℕ) → Legal bs → stepAt bs (length bs) ≡ End
+end-at-the-length bs l = Walking.step-at-end bs l
+
+pub no-row-begins-there : (bs : List ℕ) (l : Legal bs) (at : ℕ)
+    → ((k : ℕ) (x : Placed) → IsRow bs l k x → at ≡ x .row .offset → ⊥) → (at ≡ length bs → ⊥) → stepAt bs at ≡ Stopped 22 0
+no-row-begins-there bs l at a b = Walking.step-nowhere bs l at a b
+
+-- ---- the writer
+
+-- "What the writer finishes, its draft touched by nothing else since the start, is a legal token whose parts are the ones
+-- added, in that order": after a start and any accepted additions the draft's first bytes, as many as its header states,
+-- are the written form of the identifier and the parts added,
+pub draft-holds-what-was-added : (i : ℕ) (ps : List Part) (d bs e : List ℕ) → i < 256 → All (λ (p : Part). All Bytes (p .fields)) ps
+    → start i d ≡ found bs → additions ps (draftAfter (found bs) d) ≡ found e
+    → (take (stated e) e ≡ written i ps) × (stated e ≡ length (written i ps))
+draft-holds-what-was-added i ps d bs e h b s a =
+    let w = Writing.run-read ps i [] (draftAfter (found bs) d) e (Writing.started i d bs h s) b a in
+    (Writing.draft-front i ps e w, Writing.draft-header i ps e w .1)
+
+-- and finishing accepts exactly when that is a legal token, with its length.
+pub finished-exactly-when-legal : (i : ℕ) (ps : List Part) (d bs e : List ℕ) (n : ℕ) → i < 256 → All (λ (p : Part). All Bytes (p .fields)) ps
+    → start i d ≡ found bs → additions ps (draftAfter (found bs) d) ≡ found e
+    → (finish e ≡ Accepted n) ↔ (Legal (written i ps) × (n ≡ length (written i ps)))
+finished-exactly-when-legal i ps d bs e n h b s a =
+    Writing.finish-exactly i ps e (Writing.run-read ps i [] (draftAfter (found bs) d) e (Writing.started i d bs h s) b a) n
+
+-- "Adding the parts of any legal token in their order, to a draft newly started with its identifier and with room, gives
+-- back its very bytes."
+pub legal-token-rebuilt : (bs : List ℕ) (l : Legal bs) (d : List ℕ) → length bs ≤ length d
+    → (start (l .id) d ≡ found (written (l .id) []))
+    × ((e : List ℕ)
+    × (additions (l .parts) (draftAfter (found (written (l .id) [])) d) ≡ found e)
+    × (finish e ≡ Accepted (length bs))
+    × (take (length bs) e ≡ bs))
+legal-token-rebuilt bs l d h = Writing.rebuilt bs l d h
+
+-- "A refusal changes nothing lent, nor does any call past what it writes".
+pub refused-call-changes-nothing : (f : Fault) (d : List ℕ) → draftAfter (refused f) d ≡ d
+refused-call-changes-nothing f d = refl
+
+pub nothing-past-what-is-written : (bs d : List ℕ) → drop (length bs) (draftAfter (found bs) d) ≡ drop (length bs) d
+nothing-past-what-is-written bs d = lib.Seq.drop-append-seam bs (drop (length bs) d)
+
+-- "An accepted addition changes the added bytes, the header's length and, for a subsection, its section's length": in any
+-- lent draft, and no other byte.
+pub added-section-changes : (d : List ℕ) (p : Part) (bs : List ℕ) → Bytes d → isSubsection (p .kind) ≡ false
+    → addition (p .kind) (p .fields) d ≡ found bs
+    → bs ≡ restate 0 (stated d + size p) (take (stated d) d) ++ write (size p) (layout (p .kind)) (p .fields)
+added-section-changes d p bs b f e = Additions.section-changes d p bs b f e
+
+pub added-subsection-changes : (d : List ℕ) (p : Part) (bs : List ℕ) → Bytes d → isSubsection (p .kind) ≡ true
+    → addition (p .kind) (p .fields) d ≡ found bs
+    → (ts : List Section)
+    × (t : Section)
+    × (reading false d ≡ found (ts ++ t ∷ []))
+    × (bs
+    ≡ restate (placeBehind ts) (stated (drop (placeBehind ts) d) + size p) (restate 0 (stated d + size p) (take (stated d) d))
+    ++ write (size p) (layout (p .kind)) (p .fields))
+added-subsection-changes d p bs b f e = Additions.sub-changes d p bs b f e
+
+-- ---- examples
+
+-- "The starred examples are shown of the definitions, gathered into a single table under one claim".
+pub starred-examples : Examples.AllHold Examples.starred
+starred-examples = Examples.starred-hold
+
+-- "a reader that refuses everything (a legal token exists)".
+pub a-legal-token-exists : Legal Examples.tokenT
+a-legal-token-exists = Examples.legal-T
