@@ -7,16 +7,16 @@ use Prim.Native.Nat.{ℕ, zero, suc, _+_, _-_, _<_, _≤_}
 use native.Mathlib.Omega.{arith}
 use lib.Dec.{eqb, leb}
 use lib.ListN.{length, getD, drop, length-drop}
-use borrow.Author.Tests.{le-leb, leb-true}
+use borrow.Author.Tests.{eqb-true, eqb-false, le-leb, not-true}
 use Rattle.format.specs.Bytes.{number, bytesAt, allZero}
 use Rattle.format.specs.Parts.{Kind, rule, information, sameKind, sectionKind, Part}
-use Rattle.format.specs.Rules.{Section, hasRequired}
+use Rattle.format.specs.Rules.{Check, Section, hasRequired}
 use Rattle.format.specs.Reading.{Outcome, refused, found, fault, need, andThen, tested, told, idOf, stated, madeLength, partIn}
 use Rattle.format.specs.Reading.{kindBefore, ruleBefore, sectionChecks, closed, sectionRest, section, subsections}
 use Rattle.format.specs.declared.Answer.{Answer}
 use Rattle.format.specs.declared.Answer.the-variants.{Accepted, Refused}
-use Rattle.format.proofs.Finding.{every-kind}
-use Rattle.format.proofs.Tests.{need-passed, then-found}
+use Rattle.format.proofs.Finding.{and-split, every-kind}
+use Rattle.format.proofs.Tests.{Hold, need-passed, then-found}
 use Rattle.format.proofs.Turns.{subsectionsFrom, subs-from, subs-none}
 use Rattle.sections.specs.Refusals.{firstRefusal, headChecks, sectionRows}
 use Rattle.sections.proofs.Laws.{numbered, room-case}
@@ -98,3 +98,29 @@ plain-rest full x k p r e a b =
     required : sameKind rule k ≡ false → sameKind information k ≡ false → hasRequired (record { head = partIn k r; subs = [] }) ≡ true
     required q w =
         ap₂ (λ (u v : Bool). (not (u && eqb (number (getD (partIn k r .fields) 1 [])) 1) || false) && (not v || false)) q w
+
+-- ---- sections without subsections
+
+-- Where no test of a list fails, each passes.
+hold-case : (b : Bool) (h m r : ℕ) → not (eqb r 0) ≡ true → h ≡ 0 → h ≡ elim b as (λ x. ℕ) [ true ↦ m | false ↦ r ] → (b ≡ true) × (h ≡ m)
+hold-case true h m r q z e = (refl, e)
+hold-case false h m r q z e = absurd (eqb-false r 0 (not-true (eqb r 0) q) (sym e ∙ z))
+
+all-hold : (cs : List Check) → numbered cs ≡ true → 0 ≡ firstRefusal cs → Hold cs
+unfolding firstRefusal
+all-hold [] f e = tt
+all-hold (c ∷ cs) f e =
+    let s = and-split (not (eqb (c .refusal) 0)) (numbered cs) f in
+    let h = hold-case (c .holds) 0 (firstRefusal cs) (c .refusal) (s .0) refl e in
+    (h .0, all-hold cs (s .1) (h .1))
+
+-- A section of a kind without subsections that has no number is found as it is.
+pub plain-found : (full x : Bool) (k : Kind) (before : List Section) (s : List ℕ) (p : ℕ) {seen repeated : Bool} → p + 4 ≤ length s
+    → sectionKind (number (bytesAt s p 1)) ≡ some k → kindBefore k before ≡ seen → ruleBefore (partIn k (drop p s)) before ≡ repeated
+    → 0 ≡ firstRefusal (sectionChecks x k seen repeated (drop p s)) → sameKind rule k ≡ false → sameKind information k ≡ false
+    → section full x before p (drop p s) ≡ found (record { head = partIn k (drop p s); subs = [] })
+plain-found full x k before s p {seen} {repeated} h e a b f r i =
+    let c = all-hold (sectionChecks x k seen repeated (drop p s)) (section-numbered x k seen repeated (drop p s)) f in
+    let w : eqb (madeLength k (drop p s)) (stated (drop p s)) ≡ true =
+    sym (ap₂ (λ (u v : Bool). (u || v) || eqb (madeLength k (drop p s)) (stated (drop p s))) r i) ∙ c .1 .1 .1 .0 in
+    section-goes full x k before s p h e a b f ∙ plain-rest full x k p (drop p s) (eqb-true _ _ w) r i

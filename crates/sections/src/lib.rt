@@ -1,6 +1,8 @@
 // Internal: the checks of each kind of section and subsection, each test once and in order. The functions ask that the
 // bytes are there that earlier tests have shown to be there.
 pub mod information; // information.rt: section 14 and its subsections
+pub mod plain; // plain.rt: sections 13 and 15
+pub mod public_key; // public_key.rt: section 11
 
 ghost use mathlib.Core.Path.{_≡_};
 ghost use Prim.Native.Nat.{_+_, _≤_};
