@@ -164,7 +164,7 @@ or-else true b e f = absurd (let z : _≡_ {A = ℕ} 0 1 = cc in omega arith)
 abbrev owning : ℕ → Bool
 owning i = eqb i 0x12 || eqb i 0x14
 
-owner-holds : (u k : Kind) → isSubsection u ≡ true → sectionId u ≡ sectionId k → isSubsection k ≡ false → holdsSubs k ≡ true
+pub owner-holds : (u k : Kind) → isSubsection u ≡ true → sectionId u ≡ sectionId k → isSubsection k ≡ false → holdsSubs k ≡ true
 owner-holds u k a e f =
     let i = or-else _ _ (every-kind (λ j. not (isSubsection j) || owning (sectionId j)) refl u) (ap not a) in
     let o = or-else _ _ (every-kind (λ j. isSubsection j || (not (owning (sectionId j)) || holdsSubs j)) refl k) f in

@@ -253,7 +253,7 @@ record SectionRead (full x : Bool) (before : List Section) (r : List ℕ) (s : S
   form : writeParts (s .head ∷ s .subs) ++ drop (stated r) r ≡ r
 
 -- A section that has subsections is as long, without them, as its plain number.
-fixed-made : (k : Kind) (r : List ℕ) → holdsSubs k ≡ true → madeLength k r ≡ least (layout k)
+pub fixed-made : (k : Kind) (r : List ℕ) → holdsSubs k ≡ true → madeLength k r ≡ least (layout k)
 fixed-made k r e = go (sameKind rule k) refl
   where
     of : (j : Kind) → sameKind j k ≡ true → madeLength j r ≡ least (layout j) → madeLength k r ≡ least (layout k)
