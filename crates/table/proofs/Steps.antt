@@ -7,7 +7,7 @@ use native.Mathlib.Nat.{add-zero}
 use native.Mathlib.Omega.{arith}
 use lib.Dec.{eqb, ltb}
 use lib.ListN.{length, getD, take, drop, set, length-append, length-drop, length-set}
-use lib.Seq.{sets, length-sets, drop-drop}
+use lib.Seq.{sets, length-sets, take-all, drop-drop}
 use borrow.Author.Tests.{eq-eqb, ne-eqb, eqb-true, ltb-true}
 use Rattle.format.specs.Bytes.{All, Bytes, number, bytesAt}
 use Rattle.format.specs.Layout.{fits}
@@ -21,8 +21,7 @@ use Rattle.format.proofs.Tests.{found-inj}
 use Rattle.format.proofs.Finding.{and-split, every-kind, no-tag, sectionId-pos}
 use Rattle.format.proofs.PartForm.{Framed}
 use Rattle.format.proofs.Grouping.{is-true, is-false, span-sub, span-section}
-use Rattle.format.proofs.Accepted.{read-legal}
-use Rattle.format.proofs.Tiling.{behind-eight, token-length}
+use Rattle.format.proofs.Accepted.{reading-sound, whole-token, good-choice}
 use Rattle.table.specs.Filling.{Fillable, filled, Left, Filling, ownLength}
 use Rattle.table.proofs.Rows.{Here, here, section-here, sub-here, own-size}
 
@@ -120,6 +119,12 @@ module _ {s t₀ t : List ℕ} {p e i owner n : ℕ} where
   pub is-sub : (w : Next s t₀ t p e i owner n) → (p ≡ e → ⊥) → isSubsection (w .part .kind) ≡ true
   is-sub w h = sub-here (w .part) (w .behind) (λ z. h (omega (arith, w .left .ends)))
 
+  -- The id of the section at p is a byte.
+  pub id-below : (w : Next s t₀ t p e i owner n) → p ≡ e → getD s p 0 < 256
+  id-below w h =
+      let f = id-here s p (w .part) (w .behind) (w .at) (is-section w h) (omega (arith, w .four)) in
+      omega (arith, f, id-byte (w .part .kind))
+
 -- A stored row, and what is left behind it.
 pub row-stored : (t u x : List ℕ) (p n owner : ℕ) (q : Part) (qs : List Part) (k l o : ℕ)
     → u ≡ sets t (4 * n) (k ∷ p ∷ l ∷ o ∷ []) → k ≡ kindNumber (q .kind) → l ≡ span q qs
@@ -173,7 +178,7 @@ module _ {s t₀ t u : List ℕ} {p e i owner n : ℕ} where
 
   -- A subsection: its row's owner is the section before it.
   pub sub-on : (w : Next s t₀ t p e i owner n) → (p ≡ e → ⊥) → {l g : ℕ} → l ≡ number (bytesAt s (p + 2) 2) → g ≡ number (bytesAt s p 2)
-      → u ≡ sets t (4 * n) (i * 65536 + g ∷ p ∷ l ∷ owner ∷ []) → (4 ≤ l) × Filling s t₀ u (p + l) e i owner (n + 1)
+      → u ≡ sets t (4 * n) ((i * 65536 + g) ∷ p ∷ l ∷ owner ∷ []) → (4 ≤ l) × Filling s t₀ u (p + l) e i owner (n + 1)
   sub-on w h {l} {g} el eg eu =
       let q : Part = w .part in
       let qs : List Part = w .behind in
@@ -184,7 +189,7 @@ module _ {s t₀ t u : List ℕ} {p e i owner n : ℕ} where
       let js = and-split (not (isSubsection (q .kind)) || eqb (sectionId (q .kind)) i) (joins (sectionId (q .kind)) qs) (w .left .owned) in
       let ei : sectionId (q .kind) ≡ i = eqb-true _ _ (sym (ap (λ (b : Bool). not b || eqb (sectionId (q .kind)) i) f) ∙ js .0) in
       let sp : subsectionsLength (q ∷ qs) ≡ size q + subsectionsLength qs = is-true (isSubsection (q .kind)) (size q + subsectionsLength qs) 0 f in
-      let lu = ap length eu ∙ length-sets t (4 * n) (i * 65536 + g ∷ p ∷ l ∷ owner ∷ []) in
+      let lu = ap length eu ∙ length-sets t (4 * n) ((i * 65536 + g) ∷ p ∷ l ∷ owner ∷ []) in
       let ek : i * 65536 + g ≡ kindNumber (q .kind) = omega (arith, ei, eg′) in
       let st = row-stored t u _ p n owner q qs (i * 65536 + g) l owner eu ek el′ (sym (is-true (isSubsection (q .kind)) owner n f)) (w .left .rest) in
       (omega (arith, w .at .least), record {
@@ -226,16 +231,17 @@ first-section (q ∷ qs) j = go (isSubsection (q .kind)) refl
 
 pub start : {s t : List ℕ} → Fillable s t → Filling s t t 8 8 0 0 0
 start {s} {t} f =
-    let g = read-legal s (f .sections) (f .bytes) (f .read) in
-    let c = g .form .choice in
+    let r = reading-sound true s (f .sections) (f .bytes) (f .read) in
+    let n = whole-token s (f .sections) (f .read) in
+    let c = good-choice true (idOf s) (f .sections) (r .byte) (r .good) in
     record {
       parts = partsOf (f .sections);
       left = record {
         sections = f .sections;
         read = f .read;
-        front = omega (arith, g .atLeast);
-        short = g .atMost;
-        bytes = behind-eight s g;
+        front = omega (arith, r .eight);
+        short = omega (arith, r .most);
+        bytes = ap (drop 8) (sym (r .form ∙ take-all (stated s) s (omega arith)));
         ends = omega (arith, first-section (partsOf (f .sections)) (c .joined));
         owned = c .joined;
         byte = omega arith;
