@@ -1,29 +1,25 @@
 -- The second pass: the part at p, its row, and what is left to store behind it.
 use mathlib.Core.Path.{_≡_, refl, sym, ap, ap₂, _∙_, subst}
 use mathlib.Core.Bool.{Bool, true, false, not, _&&_, _||_}
-use mathlib.Core.List.{List, [], _∷_, _++_, map}
-use Prim.Native.Nat.{ℕ, zero, suc, _+_, _-_, _*_, _^_, _<_, _≤_}
+use mathlib.Core.List.{List, [], _∷_}
+use Prim.Native.Nat.{ℕ, _+_, _≤_}
 use native.Mathlib.Nat.{add-zero}
 use native.Mathlib.Omega.{arith}
 use lib.Dec.{eqb}
-use lib.ListN.{length, getD, drop, set, length-append, length-drop, length-set}
-use lib.Seq.{sets, length-sets, drop-at, drop-drop, drop-length}
-use borrow.Author.Tests.{eq-eqb, ne-eqb, eqb-true, not-true}
-use Rattle.format.specs.Bytes.{All, Bytes, number, bytesAt}
+use lib.ListN.{length, drop, length-append, length-drop}
+use lib.Seq.{drop-at, drop-drop}
+use borrow.Author.Tests.{eqb-true, not-true}
 use Rattle.format.specs.Layout.{fits, write, least}
-use Rattle.format.specs.Parts.{Kind, rule, information, sectionId, tag, kindNumber, isSubsection, sameKind, layout, Part, size, subsectionsLength, span, writeParts, joins}
-use Rattle.format.specs.Rules.{Section, sectionsOf}
-use Rattle.format.specs.Reading.{Outcome, found, reading, idOf, stated, partsOf, rowCount, holdsSubs, madeLength}
-use Rattle.format.specs.Table.{Placed, placed, rows, tableOf}
-use Rattle.format.specs.declared.Row.{Row}
+use Rattle.format.specs.Parts.{Kind, rule, information, sectionId, tag, isSubsection, sameKind, layout, Part, size, subsectionsLength, span, writeParts, joins}
+use Rattle.format.specs.Reading.{holdsSubs, madeLength}
 use Rattle.format.proofs.Finding.{and-split, every-kind, sameKind-eq}
 use Rattle.format.proofs.Fitting.{part-fits}
 use Rattle.format.proofs.Unique.{size-any, size-pos}
 use Rattle.format.proofs.PartForm.{Framed, part-read}
-use Rattle.format.proofs.Grouping.{is-true, is-false, span-le, span-sub, span-section, subs-le}
+use Rattle.format.proofs.Grouping.{is-false, span-le, span-section}
 use Rattle.format.proofs.Sound.{fixed-made}
 use Rattle.format.proofs.Complete.{owner-holds}
-use Rattle.table.specs.Filling.{Filling, ownLength}
+use Rattle.table.specs.Filling.{ownLength}
 
 -- ---- the part at p
 
@@ -38,7 +34,7 @@ pub record Here (s : List ℕ) (p : ℕ) (q : Part) (qs : List Part) : Type 0 wh
   pub spans : p + span q qs ≤ length s
 
 pub here : (s : List ℕ) (p : ℕ) (q : Part) (qs : List Part) → p ≤ length s → length s ≤ 3500
-  → fits [] (layout (q .kind)) (q .fields) ≡ true → drop p s ≡ writeParts (q ∷ qs) → Here s p q qs
+    → fits [] (layout (q .kind)) (q .fields) ≡ true → drop p s ≡ writeParts (q ∷ qs) → Here s p q qs
 here s p q qs h m f e =
     let a : List ℕ = write (span q qs) (layout (q .kind)) (q .fields) in
     let n = size-any (layout (q .kind)) (span q qs) 0 (q .fields) in
@@ -55,7 +51,7 @@ here s p q qs h m f e =
       least = pos;
       inside = omega arith;
       ends = omega arith;
-      spans = omega arith
+      spans = omega arith;
     }
 
 -- ---- section or subsection
@@ -89,7 +85,7 @@ unfolding ownLength
 other-id k f h n =
     let t = every-kind (λ j. isSubsection j || (holdsSubs j || (not (eqb (sectionId j) 0x12) && not (eqb (sectionId j) 0x14)))) refl k in
     let u : (not (eqb (sectionId k) 0x12) && not (eqb (sectionId k) 0x14)) ≡ true =
-        sym (ap₂ (λ (a b : Bool). a || (b || (not (eqb (sectionId k) 0x12) && not (eqb (sectionId k) 0x14)))) f h) ∙ t in
+    sym (ap₂ (λ (a b : Bool). a || (b || (not (eqb (sectionId k) 0x12) && not (eqb (sectionId k) 0x14)))) f h) ∙ t in
     let v = and-split (not (eqb (sectionId k) 0x12)) (not (eqb (sectionId k) 0x14)) u in
     ap₂ (λ (a b : Bool). elim a as (λ y. ℕ) [ true ↦ 20 | false ↦ elim b as (λ z. ℕ) [ true ↦ 10 | false ↦ n ] ]) (not-true (eqb (sectionId k) 0x12) (v .0)) (not-true (eqb (sectionId k) 0x14) (v .1))
 
@@ -103,6 +99,7 @@ no-subs k (u ∷ us) f h j = go (isSubsection (u .kind)) refl
         eqb-true _ _
         (sym (ap (λ (b : Bool). not b || eqb (sectionId (u .kind)) (sectionId k)) e)
         ∙ and-split (not (isSubsection (u .kind)) || eqb (sectionId (u .kind)) (sectionId k)) (joins (sectionId (u .kind)) us) j .0)
+
     go : (b : Bool) → isSubsection (u .kind) ≡ b → subsectionsLength (u ∷ us) ≡ 0
     go false e = is-false (isSubsection (u .kind)) (size u + subsectionsLength us) 0 e
     go true e =
@@ -113,14 +110,16 @@ no-subs k (u ∷ us) f h j = go (isSubsection (u .kind)) refl
 
 -- The length of a section's own fields, from its id and the length that it states.
 pub own-size : (s : List ℕ) (p : ℕ) (q : Part) (qs : List Part) → Here s p q qs → isSubsection (q .kind) ≡ false
-  → joins (sectionId (q .kind)) qs ≡ true → ownLength (sectionId (q .kind)) (span q qs) ≡ size q
+    → joins (sectionId (q .kind)) qs ≡ true → ownLength (sectionId (q .kind)) (span q qs) ≡ size q
 own-size s p q qs w f j = go (holdsSubs (q .kind)) refl
   where
     fixed : (k j : Kind) → sameKind j k ≡ true → ownLength (sectionId j) (span q qs) ≡ least (layout j) → ownLength (sectionId k) (span q qs) ≡ least (layout k)
     fixed k j e = subst (λ (y : Kind). ownLength (sectionId y) (span q qs) ≡ least (layout y)) (sameKind-eq j k e)
+
     held : (k : Kind) (b : Bool) → sameKind rule k ≡ b → holdsSubs k ≡ true → ownLength (sectionId k) (span q qs) ≡ least (layout k)
     held k true e h = fixed k rule e (own-rule (span q qs))
     held k false e h = fixed k information (sym (ap (λ (b : Bool). b || sameKind information k) e) ∙ h) (own-information (span q qs))
+
     go : (b : Bool) → holdsSubs (q .kind) ≡ b → ownLength (sectionId (q .kind)) (span q qs) ≡ size q
     go true h = held (q .kind) (sameKind rule (q .kind)) refl h ∙ sym (fixed-made (q .kind) (drop p s) h) ∙ w .made
     go false h =

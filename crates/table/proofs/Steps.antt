@@ -1,21 +1,18 @@
 -- The second pass, turn by turn: where it starts, a section's row, a subsection's row, and where it ends.
 use mathlib.Core.Path.{_≡_, refl, sym, ap, ap₂, _∙_, subst}
-use mathlib.Core.Bool.{Bool, true, false, not, _&&_, _||_}
-use mathlib.Core.List.{List, [], _∷_, _++_, map}
-use Prim.Native.Nat.{ℕ, zero, suc, _+_, _-_, _*_, _<_, _≤_}
-use native.Mathlib.Nat.{add-zero}
+use mathlib.Core.Bool.{Bool, true, false, not, _||_}
+use mathlib.Core.List.{List, [], _∷_, map}
+use Prim.Native.Nat.{ℕ, suc, _+_, _*_, _<_, _≤_}
 use native.Mathlib.Omega.{arith}
 use lib.Dec.{eqb, ltb}
-use lib.ListN.{length, getD, take, drop, set, length-append, length-drop, length-set}
+use lib.ListN.{length, getD, take, drop, set, length-drop}
 use lib.Seq.{sets, length-sets, take-all, drop-drop}
-use borrow.Author.Tests.{eq-eqb, ne-eqb, eqb-true, ltb-true}
-use Rattle.format.specs.Bytes.{All, Bytes, number, bytesAt}
-use Rattle.format.specs.Layout.{fits}
-use Rattle.format.specs.Parts.{Kind, sectionId, tag, kindNumber, isSubsection, layout, Part, size, subsectionsLength, span, writeParts, joins}
+use borrow.Author.Tests.{ne-eqb, eqb-true, ltb-true}
+use Rattle.format.specs.Bytes.{number, bytesAt}
+use Rattle.format.specs.Parts.{Kind, sectionId, tag, kindNumber, isSubsection, Part, size, subsectionsLength, span, joins}
 use Rattle.format.specs.Rules.{Section}
-use Rattle.format.specs.Reading.{found, reading, idOf, stated, partsOf, rowCount}
-use Rattle.format.specs.Table.{Placed, placed, rows, tableOf}
-use Rattle.format.specs.declared.Row.{Row}
+use Rattle.format.specs.Reading.{idOf, stated, partsOf}
+use Rattle.format.specs.Table.{placed, rows, tableOf}
 use Rattle.format.proofs.Numbers.{number-one}
 use Rattle.format.proofs.Tests.{found-inj}
 use Rattle.format.proofs.Finding.{and-split, every-kind, no-tag, sectionId-pos}
@@ -125,17 +122,17 @@ module _ {s t₀ t : List ℕ} {p e i owner n : ℕ} where
       let f = id-here s p (w .part) (w .behind) (w .at) (is-section w h) (omega (arith, w .four)) in
       omega (arith, f, id-byte (w .part .kind))
 
--- A stored row, and what is left behind it.
-pub row-stored : (t u x : List ℕ) (p n owner : ℕ) (q : Part) (qs : List Part) (k l o : ℕ)
-    → u ≡ sets t (4 * n) (k ∷ p ∷ l ∷ o ∷ []) → k ≡ kindNumber (q .kind) → l ≡ span q qs
+-- A stored row, of a part of m bytes, and what is left behind it.
+row-stored : (t u x : List ℕ) (p n owner m : ℕ) (q : Part) (qs : List Part) (k l o : ℕ)
+    → u ≡ sets t (4 * n) (k ∷ p ∷ l ∷ o ∷ []) → m ≡ size q → k ≡ kindNumber (q .kind) → l ≡ span q qs
     → o ≡ elim (isSubsection (q .kind)) as (λ b. ℕ) [ true ↦ owner | false ↦ n ]
     → sets t (4 * n) (tableOf (map (λ y. y .row) (placed p n owner (q ∷ qs)))) ≡ x
-    → sets u (4 * (n + 1)) (tableOf (map (λ y. y .row) (placed (p + size q) (n + 1) o qs))) ≡ x
-row-stored t u x p n owner q qs k l o eu ek el eo e =
-    let m : 4 * (n + 1) ≡ suc (suc (suc (suc (4 * n)))) = omega arith in
-    let j : n + 1 ≡ suc n = omega arith in
-    ap₂ (λ (a b : ℕ). sets u a (tableOf (map (λ y. y .row) (placed (p + size q) b o qs)))) m j
-    ∙ ap (λ (v : List ℕ). sets v (suc (suc (suc (suc (4 * n))))) (tableOf (map (λ y. y .row) (placed (p + size q) (suc n) o qs)))) eu
+    → sets u (4 * (n + 1)) (tableOf (map (λ y. y .row) (placed (p + m) (n + 1) o qs))) ≡ x
+row-stored t u x p n owner m q qs k l o eu em ek el eo e =
+    let four : 4 * (n + 1) ≡ suc (suc (suc (suc (4 * n)))) = omega arith in
+    let one : n + 1 ≡ suc n = omega arith in
+    ap₂ (λ (a b : ℕ). sets u a (tableOf (map (λ y. y .row) (placed (p + m) b o qs)))) four one
+    ∙ ap₂ (λ (v : List ℕ) (a : ℕ). sets v (suc (suc (suc (suc (4 * n))))) (tableOf (map (λ y. y .row) (placed (p + a) (suc n) o qs)))) eu em
     ∙ ap₂ (λ (a b : ℕ). sets t (4 * n) (a ∷ p ∷ b ∷ o ∷ tableOf (map (λ y. y .row) (placed (p + size q) (suc n) o qs)))) ek el
     ∙ ap (λ (a : ℕ). sets t (4 * n) (kindNumber (q .kind) ∷ p ∷ span q qs ∷ a ∷ tableOf (map (λ y. y .row) (placed (p + size q) (suc n) a qs)))) eo
     ∙ e
@@ -154,27 +151,28 @@ module _ {s t₀ t u : List ℕ} {p e i owner n : ℕ} where
       let size′ : m ≡ size q = em ∙ ap₂ ownLength ei el′ ∙ own-size s p q qs (w .at) f j in
       let sp = span-section q qs f in
       let lu = ap length eu ∙ length-sets t (4 * n) (getD s p 0 * 65536 ∷ p ∷ l ∷ n ∷ []) in
-      let ek : getD s p 0 * 65536 ≡ kindNumber (q .kind) = omega (arith, ei, no-tag (q .kind) f) in
-      let st = row-stored t u _ p n owner q qs (getD s p 0 * 65536) l n eu ek el′ (sym (is-false (isSubsection (q .kind)) owner n f)) (w .left .rest) in
-      (omega (arith, w .at .least), record {
-        parts = qs;
-        left = record {
-          sections = w .left .sections;
-          read = w .left .read;
-          front = omega (arith, w .at .ends);
-          short = w .left .short;
-          bytes = ap (λ (a : ℕ). drop (p + a) s) size′ ∙ w .at .behind;
-          ends = omega arith;
-          owned = ap (λ (a : ℕ). joins a qs) ei ∙ j;
-          byte = omega (arith, id-byte (q .kind));
-          owners = omega arith;
-          few = omega (arith, w .left .few, w .at .least);
-          fit = w .left .fit .1;
-          long = omega (arith, w .left .long);
-          room = omega (arith, w .left .room);
-          rest = ap (λ (a : ℕ). sets u (4 * (n + 1)) (tableOf (map (λ y. y .row) (placed (p + a) (n + 1) n qs)))) size′ ∙ st;
-        };
-      })
+      let ek : getD s p 0 * 65536 ≡ kindNumber (q .kind) = omega (arith, ei, no-tag (q .kind) f) in (
+        omega (arith, w .at .least),
+        record {
+          parts = qs;
+          left = record {
+            sections = w .left .sections;
+            read = w .left .read;
+            front = omega (arith, w .at .ends);
+            short = w .left .short;
+            bytes = ap (λ (a : ℕ). drop (p + a) s) size′ ∙ w .at .behind;
+            ends = omega arith;
+            owned = ap (λ (a : ℕ). joins a qs) ei ∙ j;
+            byte = omega (arith, id-byte (q .kind));
+            owners = omega arith;
+            few = omega (arith, w .left .few, w .at .least);
+            fit = w .left .fit .1;
+            long = omega (arith, w .left .long);
+            room = omega (arith, w .left .room);
+            rest = row-stored t u _ p n owner m q qs (getD s p 0 * 65536) l n eu size′ ek el′ (sym (is-false (isSubsection (q .kind)) owner n f)) (w .left .rest);
+          };
+        },
+      )
 
   -- A subsection: its row's owner is the section before it.
   pub sub-on : (w : Next s t₀ t p e i owner n) → (p ≡ e → ⊥) → {l g : ℕ} → l ≡ number (bytesAt s (p + 2) 2) → g ≡ number (bytesAt s p 2)
@@ -190,27 +188,28 @@ module _ {s t₀ t u : List ℕ} {p e i owner n : ℕ} where
       let ei : sectionId (q .kind) ≡ i = eqb-true _ _ (sym (ap (λ (b : Bool). not b || eqb (sectionId (q .kind)) i) f) ∙ js .0) in
       let sp : subsectionsLength (q ∷ qs) ≡ size q + subsectionsLength qs = is-true (isSubsection (q .kind)) (size q + subsectionsLength qs) 0 f in
       let lu = ap length eu ∙ length-sets t (4 * n) ((i * 65536 + g) ∷ p ∷ l ∷ owner ∷ []) in
-      let ek : i * 65536 + g ≡ kindNumber (q .kind) = omega (arith, ei, eg′) in
-      let st = row-stored t u _ p n owner q qs (i * 65536 + g) l owner eu ek el′ (sym (is-true (isSubsection (q .kind)) owner n f)) (w .left .rest) in
-      (omega (arith, w .at .least), record {
-        parts = qs;
-        left = record {
-          sections = w .left .sections;
-          read = w .left .read;
-          front = omega (arith, w .at .ends);
-          short = w .left .short;
-          bytes = ap (λ (a : ℕ). drop (p + a) s) size′ ∙ w .at .behind;
-          ends = omega (arith, w .left .ends);
-          owned = ap (λ (a : ℕ). joins a qs) (sym ei) ∙ js .1;
-          byte = w .left .byte;
-          owners = omega (arith, w .left .owners);
-          few = omega (arith, w .left .few, w .at .least);
-          fit = w .left .fit .1;
-          long = omega (arith, w .left .long);
-          room = omega (arith, w .left .room);
-          rest = ap (λ (a : ℕ). sets u (4 * (n + 1)) (tableOf (map (λ y. y .row) (placed (p + a) (n + 1) owner qs)))) size′ ∙ st;
-        };
-      })
+      let ek : i * 65536 + g ≡ kindNumber (q .kind) = omega (arith, ei, eg′) in (
+        omega (arith, w .at .least),
+        record {
+          parts = qs;
+          left = record {
+            sections = w .left .sections;
+            read = w .left .read;
+            front = omega (arith, w .at .ends);
+            short = w .left .short;
+            bytes = ap (λ (a : ℕ). drop (p + a) s) size′ ∙ w .at .behind;
+            ends = omega (arith, w .left .ends);
+            owned = ap (λ (a : ℕ). joins a qs) (sym ei) ∙ js .1;
+            byte = w .left .byte;
+            owners = omega (arith, w .left .owners);
+            few = omega (arith, w .left .few, w .at .least);
+            fit = w .left .fit .1;
+            long = omega (arith, w .left .long);
+            room = omega (arith, w .left .room);
+            rest = row-stored t u _ p n owner l q qs (i * 65536 + g) l owner eu size′ ek el′ (sym (is-true (isSubsection (q .kind)) owner n f)) (w .left .rest);
+          };
+        },
+      )
 
 -- ---- the start and the end
 
@@ -224,9 +223,9 @@ first-section (q ∷ qs) j = go (isSubsection (q .kind)) refl
     go true f =
         absurd
         (let z : sectionId (q .kind) ≡ 0 =
-            eqb-true _ _
-            (sym (ap (λ (b : Bool). not b || eqb (sectionId (q .kind)) 0) f)
-            ∙ and-split (not (isSubsection (q .kind)) || eqb (sectionId (q .kind)) 0) (joins (sectionId (q .kind)) qs) j .0) in
+        eqb-true _ _
+        (sym (ap (λ (b : Bool). not b || eqb (sectionId (q .kind)) 0) f)
+        ∙ and-split (not (isSubsection (q .kind)) || eqb (sectionId (q .kind)) 0) (joins (sectionId (q .kind)) qs) j .0) in
         omega (arith, sectionId-pos (q .kind)))
 
 pub start : {s t : List ℕ} → Fillable s t → Filling s t t 8 8 0 0 0

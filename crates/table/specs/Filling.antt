@@ -1,7 +1,7 @@
 -- Internal: what the second pass starts from, keeps and ends with.
 use mathlib.Core.Path.{_≡_}
-use mathlib.Core.Bool.{Bool, true, false}
-use mathlib.Core.List.{List, [], _∷_, _++_, map}
+use mathlib.Core.Bool.{true, false}
+use mathlib.Core.List.{List, [], map}
 use Prim.Native.Nat.{ℕ, _+_, _*_, _<_, _≤_}
 use lib.Dec.{eqb}
 use lib.ListN.{length, drop}
@@ -11,8 +11,7 @@ use Rattle.format.specs.Layout.{fits}
 use Rattle.format.specs.Parts.{Part, layout, joins, writeParts, subsectionsLength}
 use Rattle.format.specs.Rules.{Section}
 use Rattle.format.specs.Reading.{found, reading, partsOf, rowCount}
-use Rattle.format.specs.Table.{Placed, placed, rows, tableOf}
-use Rattle.format.specs.declared.Row.{Row}
+use Rattle.format.specs.Table.{placed, rows, tableOf}
 
 -- the bytes of a section's own fields by its id, where it states that length
 unfoldable pub ownLength : ℕ → ℕ → ℕ

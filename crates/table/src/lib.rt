@@ -1,13 +1,9 @@
 // Internal: the second pass over an accepted token, which fills a lent table row by row and tests nothing again.
 ghost use mathlib.Core.Path.{_≡_};
 ghost use mathlib.Core.List.{[], _∷_};
-ghost use Prim.Native.Nat.{_+_, _*_, _<_, _≤_};
+ghost use Prim.Native.Nat.{_+_, _*_, _≤_};
 ghost use lib.ListN.{length};
 ghost use lib.Seq.{sets};
-ghost use Rattle.format.specs.Bytes.{Bytes};
-ghost use Rattle.format.specs.Rules.{Section};
-ghost use Rattle.format.specs.Reading.{reading, rowCount, partsOf, found};
-ghost use Rattle.format.specs.Table.{rows, tableOf};
 ghost use Rattle.table.specs.Filling.{Fillable, filled, ownLength};
 use fields::two;
 
@@ -48,14 +44,28 @@ pub fn fill(s: &[u8], table: &mut [u32])
         let length = two(s, p + 2);
         if p == e {
             id = s[p];
-            put_row(table, n, id as u32 * 65536, p as u32, length as u32, n as u32);
+            put_row(
+                table,
+                n,
+                id as u32 * 65536,
+                p as u32,
+                length as u32,
+                n as u32,
+            );
             owner = n;
             n += 1;
             e = p + length;
             p += own_length(id, length);
             continue;
         }
-        put_row(table, n, id as u32 * 65536 + two(s, p) as u32, p as u32, length as u32, owner as u32);
+        put_row(
+            table,
+            n,
+            id as u32 * 65536 + two(s, p) as u32,
+            p as u32,
+            length as u32,
+            owner as u32,
+        );
         n += 1;
         p += length;
     }

@@ -1,18 +1,14 @@
+-- The length that a section's id tells.
 use Rattle.table.proofs.Steps.{own-twenty, own-ten, own-stated}
 use Rattle.table.proofs.own_length.Statement.{statement}
 use Rattle.table.proofs.own_length.Tie as tie
-use Rattle.table.proofs.own_length.Reads as reads
-use Rattle.table.proofs.own_length.Lts as lts
 
--- src/lib.rt:15:1
 returns : tie.Need-returns
 returns c = own-twenty (c .before .args .length) (c .match .keys1)
 
--- src/lib.rt:15:1
 returns-2 : tie.Need-returns-2
 returns-2 c = own-ten (c .before .args .length) (c .match .keys2)
 
--- src/lib.rt:15:1
 returns-3 : tie.Need-returns-3
 returns-3 c = own-stated (c .before .args .id) (c .before .args .length) (c .match .rest .0 .1) (c .match .rest .1)
 

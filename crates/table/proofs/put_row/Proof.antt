@@ -1,3 +1,4 @@
+-- Four stores make the row.
 use Rattle.table.proofs.Steps.{four-stores}
 use native.Mathlib.Omega.{arith}
 use Prim.Native.Nat.{_*_}
@@ -5,62 +6,46 @@ use lib.ListN.{length-set}
 use borrow.Author.Needs.{needs}
 use Rattle.table.proofs.put_row.Statement.{statement}
 use Rattle.table.proofs.put_row.Tie as tie
-use Rattle.table.proofs.put_row.Reads as reads
-use Rattle.table.proofs.put_row.Lts as lts
 
--- src/lib.rt:30:13
 mul-i : tie.Need-mul-i
 mul-i c = search needs
 
--- src/lib.rt:31:5
 mul-table : tie.Need-mul-table
 mul-table c = search needs
 
--- src/lib.rt:31:5
 slice-write-table : tie.Need-slice-write-table
 slice-write-table c = search needs
 
--- src/lib.rt:32:11
 add-table : tie.Need-add-table
 add-table c = search needs
 
--- src/lib.rt:32:5
 mul-table-2 : tie.Need-mul-table-2
 mul-table-2 c = search needs
 
--- src/lib.rt:32:5
 slice-write-table-2 : tie.Need-slice-write-table-2
 slice-write-table-2 c = simp length-set (omega (arith, c .pre))
 
--- src/lib.rt:33:11
 add-table-2 : tie.Need-add-table-2
 add-table-2 c = search needs
 
--- src/lib.rt:33:5
 mul-table-3 : tie.Need-mul-table-3
 mul-table-3 c = search needs
 
--- src/lib.rt:33:5
 slice-write-table-3 : tie.Need-slice-write-table-3
 slice-write-table-3 c = simp length-set (omega (arith, c .pre))
 
--- src/lib.rt:34:11
 add-table-3 : tie.Need-add-table-3
 add-table-3 c = search needs
 
--- src/lib.rt:34:5
 mul-table-4 : tie.Need-mul-table-4
 mul-table-4 c = search needs
 
--- src/lib.rt:34:5
 slice-write-table-4 : tie.Need-slice-write-table-4
 slice-write-table-4 c = simp length-set (omega (arith, c .pre))
 
--- src/lib.rt:26:1
 same-length : tie.Need-same-length
 same-length c = search needs
 
--- src/lib.rt:26:1
 returns : tie.Need-returns
 returns c = four-stores (c .args .table .now) (4 * c .args .n) (c .args .kind) (c .args .offset) (c .args .length) (c .args .owner)
 
