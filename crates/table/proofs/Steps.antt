@@ -134,7 +134,9 @@ row-stored t u x p n owner m q qs k l o eu em ek el eo e =
     ap₂ (λ (a b : ℕ). sets u a (tableOf (map (λ y. y .row) (placed (p + m) b o qs)))) four one
     ∙ ap₂ (λ (v : List ℕ) (a : ℕ). sets v (suc (suc (suc (suc (4 * n))))) (tableOf (map (λ y. y .row) (placed (p + a) (suc n) o qs)))) eu em
     ∙ ap₂ (λ (a b : ℕ). sets t (4 * n) (a ∷ p ∷ b ∷ o ∷ tableOf (map (λ y. y .row) (placed (p + size q) (suc n) o qs)))) ek el
-    ∙ ap (λ (a : ℕ). sets t (4 * n) (kindNumber (q .kind) ∷ p ∷ span q qs ∷ a ∷ tableOf (map (λ y. y .row) (placed (p + size q) (suc n) a qs)))) eo
+    ∙ ap
+    (λ (a : ℕ). sets t (4 * n) (kindNumber (q .kind) ∷ p ∷ span q qs ∷ a ∷ tableOf (map (λ y. y .row) (placed (p + size q) (suc n) a qs))))
+    eo
     ∙ e
 
 module _ {s t₀ t u : List ℕ} {p e i owner n : ℕ} where
@@ -147,7 +149,8 @@ module _ {s t₀ t u : List ℕ} {p e i owner n : ℕ} where
       let f = is-section w h in
       let el′ : l ≡ span q qs = stated-here s p q qs (w .at) el in
       let ei : getD s p 0 ≡ sectionId (q .kind) = id-here s p q qs (w .at) f (omega (arith, w .four)) in
-      let j : joins (sectionId (q .kind)) qs ≡ true = and-split (not (isSubsection (q .kind)) || eqb (sectionId (q .kind)) i) (joins (sectionId (q .kind)) qs) (w .left .owned) .1 in
+      let j : joins (sectionId (q .kind)) qs ≡ true =
+      and-split (not (isSubsection (q .kind)) || eqb (sectionId (q .kind)) i) (joins (sectionId (q .kind)) qs) (w .left .owned) .1 in
       let size′ : m ≡ size q = em ∙ ap₂ ownLength ei el′ ∙ own-size s p q qs (w .at) f j in
       let sp = span-section q qs f in
       let lu = ap length eu ∙ length-sets t (4 * n) (getD s p 0 * 65536 ∷ p ∷ l ∷ n ∷ []) in

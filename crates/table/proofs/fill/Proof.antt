@@ -61,12 +61,16 @@ put-row-requires c κs =
 
 add-n : tie.Need-add-n Inv-loop μ-loop
 add-n c =
-    let w = next (c .before .before .before .before .before .before .before .before .loop .inv) (c .before .before .before .before .before .before .before .loop-test .taken) in
+    let w =
+    next (c .before .before .before .before .before .before .before .before .loop .inv)
+    (c .before .before .before .before .before .before .before .loop-test .taken) in
     omega (arith, w .four, w .left .short, w .left .few)
 
 add-e : tie.Need-add-e Inv-loop μ-loop
 add-e c =
-    let w = next (c .before .before .before .before .before .before .before .before .loop .inv) (c .before .before .before .before .before .before .before .loop-test .taken) in
+    let w =
+    next (c .before .before .before .before .before .before .before .before .loop .inv)
+    (c .before .before .before .before .before .before .before .loop-test .taken) in
     omega (arith, w .four, w .left .short, c .before .before .before .before .before .before .two .ensures .1)
 
 own-length-requires : tie.Need-own-length-requires Inv-loop μ-loop
@@ -74,20 +78,35 @@ own-length-requires c κs = tt
 
 add-p : tie.Need-add-p Inv-loop μ-loop
 add-p c =
-    let w = next (c .before .before .before .before .before .before .before .before .before .loop .inv) (c .before .before .before .before .before .before .before .before .loop-test .taken) in
-    let r = section-on w (c .before .before .before .before .before .before .if1 .taken) (c .before .before .before .before .before .before .before .two .ensures .0) (c .own-length .ensures) (c .before .before .before .put-row .ensures) in
+    let w =
+    next (c .before .before .before .before .before .before .before .before .before .loop .inv)
+    (c .before .before .before .before .before .before .before .before .loop-test .taken) in
+    let r =
+    section-on w (c .before .before .before .before .before .before .if1 .taken)
+    (c .before .before .before .before .before .before .before .two .ensures .0)
+    (c .own-length .ensures) (c .before .before .before .put-row .ensures) in
     omega (arith, r .1 .left .front, w .left .short)
 
 loop-less : tie.Need-loop-less Inv-loop μ-loop
 loop-less c =
-    let w = next (c .before .before .before .before .before .before .before .before .before .loop .inv) (c .before .before .before .before .before .before .before .before .loop-test .taken) in
-    let r = section-on w (c .before .before .before .before .before .before .if1 .taken) (c .before .before .before .before .before .before .before .two .ensures .0) (c .own-length .ensures) (c .before .before .before .put-row .ensures) in
+    let w =
+    next (c .before .before .before .before .before .before .before .before .before .loop .inv)
+    (c .before .before .before .before .before .before .before .before .loop-test .taken) in
+    let r =
+    section-on w (c .before .before .before .before .before .before .if1 .taken)
+    (c .before .before .before .before .before .before .before .two .ensures .0)
+    (c .own-length .ensures) (c .before .before .before .put-row .ensures) in
     omega (arith, r .0, w .four)
 
 loop-again : tie.Need-loop-again Inv-loop μ-loop
 loop-again c =
-    let w = next (c .before .before .before .before .before .before .before .before .before .loop .inv) (c .before .before .before .before .before .before .before .before .loop-test .taken) in
-    let r = section-on w (c .before .before .before .before .before .before .if1 .taken) (c .before .before .before .before .before .before .before .two .ensures .0) (c .own-length .ensures) (c .before .before .before .put-row .ensures) in
+    let w =
+    next (c .before .before .before .before .before .before .before .before .before .loop .inv)
+    (c .before .before .before .before .before .before .before .before .loop-test .taken) in
+    let r =
+    section-on w (c .before .before .before .before .before .before .if1 .taken)
+    (c .before .before .before .before .before .before .before .two .ensures .0)
+    (c .own-length .ensures) (c .before .before .before .put-row .ensures) in
     r .1
 
 cast-put-row-5 : tie.Need-cast-put-row-5 Inv-loop μ-loop
@@ -133,24 +152,38 @@ put-row-requires-2 c κs =
 
 add-n-2 : tie.Need-add-n-2 Inv-loop μ-loop
 add-n-2 c =
-    let w = next (c .before .before .before .before .before .before .before .before .loop .inv) (c .before .before .before .before .before .before .before .loop-test .taken) in
+    let w =
+    next (c .before .before .before .before .before .before .before .before .loop .inv)
+    (c .before .before .before .before .before .before .before .loop-test .taken) in
     omega (arith, w .four, w .left .short, w .left .few)
 
 add-p-2 : tie.Need-add-p-2 Inv-loop μ-loop
 add-p-2 c =
-    let w = next (c .before .before .before .before .before .before .before .before .loop .inv) (c .before .before .before .before .before .before .before .loop-test .taken) in
+    let w =
+    next (c .before .before .before .before .before .before .before .before .loop .inv)
+    (c .before .before .before .before .before .before .before .loop-test .taken) in
     omega (arith, w .four, w .left .short, c .before .before .before .before .before .before .two .ensures .1)
 
 loop-less-2 : tie.Need-loop-less-2 Inv-loop μ-loop
 loop-less-2 c =
-    let w = next (c .before .before .before .before .before .before .before .before .loop .inv) (c .before .before .before .before .before .before .before .loop-test .taken) in
-    let r = sub-on w (c .before .before .before .before .before .if1 .left) (c .before .before .before .before .before .before .two .ensures .0) (c .before .before .before .two2 .ensures .0) (c .before .before .put-row2 .ensures) in
+    let w =
+    next (c .before .before .before .before .before .before .before .before .loop .inv)
+    (c .before .before .before .before .before .before .before .loop-test .taken) in
+    let r =
+    sub-on w (c .before .before .before .before .before .if1 .left)
+    (c .before .before .before .before .before .before .two .ensures .0)
+    (c .before .before .before .two2 .ensures .0) (c .before .before .put-row2 .ensures) in
     omega (arith, r .0, w .four)
 
 loop-again-2 : tie.Need-loop-again-2 Inv-loop μ-loop
 loop-again-2 c =
-    let w = next (c .before .before .before .before .before .before .before .before .loop .inv) (c .before .before .before .before .before .before .before .loop-test .taken) in
-    let r = sub-on w (c .before .before .before .before .before .if1 .left) (c .before .before .before .before .before .before .two .ensures .0) (c .before .before .before .two2 .ensures .0) (c .before .before .put-row2 .ensures) in
+    let w =
+    next (c .before .before .before .before .before .before .before .before .loop .inv)
+    (c .before .before .before .before .before .before .before .loop-test .taken) in
+    let r =
+    sub-on w (c .before .before .before .before .before .if1 .left)
+    (c .before .before .before .before .before .before .two .ensures .0)
+    (c .before .before .before .two2 .ensures .0) (c .before .before .put-row2 .ensures) in
     r .1
 
 same-length : tie.Need-same-length Inv-loop μ-loop
