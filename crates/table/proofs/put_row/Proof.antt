@@ -1,0 +1,69 @@
+-- Four stores make the row.
+use Rattle.table.proofs.Steps.{four-stores}
+use native.Mathlib.Omega.{arith}
+use Prim.Native.Nat.{_*_}
+use lib.ListN.{length-set}
+use borrow.Author.Needs.{needs}
+use Rattle.table.proofs.put_row.Statement.{statement}
+use Rattle.table.proofs.put_row.Tie as tie
+
+mul-i : tie.Need-mul-i
+mul-i c = search needs
+
+mul-table : tie.Need-mul-table
+mul-table c = search needs
+
+slice-write-table : tie.Need-slice-write-table
+slice-write-table c = search needs
+
+add-table : tie.Need-add-table
+add-table c = search needs
+
+mul-table-2 : tie.Need-mul-table-2
+mul-table-2 c = search needs
+
+slice-write-table-2 : tie.Need-slice-write-table-2
+slice-write-table-2 c = simp length-set (omega (arith, c .pre))
+
+add-table-2 : tie.Need-add-table-2
+add-table-2 c = search needs
+
+mul-table-3 : tie.Need-mul-table-3
+mul-table-3 c = search needs
+
+slice-write-table-3 : tie.Need-slice-write-table-3
+slice-write-table-3 c = simp length-set (omega (arith, c .pre))
+
+add-table-3 : tie.Need-add-table-3
+add-table-3 c = search needs
+
+mul-table-4 : tie.Need-mul-table-4
+mul-table-4 c = search needs
+
+slice-write-table-4 : tie.Need-slice-write-table-4
+slice-write-table-4 c = simp length-set (omega (arith, c .pre))
+
+same-length : tie.Need-same-length
+same-length c = search needs
+
+returns : tie.Need-returns
+returns c = four-stores (c .args .table .now) (4 * c .args .n) (c .args .kind) (c .args .offset) (c .args .length) (c .args .owner)
+
+pub put-row-spec : {M : Type 1} → statement M
+put-row-spec =
+    tie.close
+    (tie.spec
+    mul-i
+    mul-table
+    slice-write-table
+    add-table
+    mul-table-2
+    slice-write-table-2
+    add-table-2
+    mul-table-3
+    slice-write-table-3
+    add-table-3
+    mul-table-4
+    slice-write-table-4
+    same-length
+    returns)
