@@ -2,3 +2,4 @@
 // the bytes are there that earlier tests have shown to be there.
 mod references; // references.rt: 0001, the transport variant; 0002 and 0004, the references to other rules
 mod parameters; // parameters.rt: 0003, the export parameters; 0005, the token parameters
+mod subsections; // subsections.rt: the loop over the subsections of a rule, and what they owe each other
