@@ -1,6 +1,6 @@
 -- A rule's subsection by its tag, and a turn of the loop over the subsections. Assumes nothing.
-use mathlib.Core.Path.{_≡_, refl, sym, ap, ap₂, _∙_, subst}
-use mathlib.Core.Bool.{Bool, true, false, not, _||_}
+use mathlib.Core.Path.{_≡_, refl, sym, ap, _∙_, subst}
+use mathlib.Core.Bool.{Bool, true, false, not}
 use mathlib.Core.List.{List, [], _∷_, _++_}
 use mathlib.Core.Logic.{_⊎_, inl, inr, ⊎-elim}
 use mathlib.Core.Option.{Option, none, some}
@@ -11,7 +11,8 @@ use lib.ListN.{length, getD, set, drop, length-drop, length-set, replicate, leng
 use lib.Seq.{getD-set-same, getD-set-other}
 use borrow.Author.Tests.{eqb-true, eqb-false, ne-eqb, ltb-true, not-true}
 use Rattle.format.specs.Bytes.{number, bytesAt}
-use Rattle.format.specs.Parts.{Kind, rule, transportVariant, transportRule, exportParameters, sourceRule, tokenParameters, tag, sameKind, subsectionKind, Part, size}
+use Rattle.format.specs.Parts.{Kind, rule, transportVariant, transportRule, exportParameters, sourceRule, tokenParameters, tag, sameKind}
+use Rattle.format.specs.Parts.{subsectionKind, Part, size}
 use Rattle.format.specs.Rules.{has}
 use Rattle.format.specs.Reading.{Outcome, refused, found, fault, tested, stated, madeLength, partIn, subsectionChecks, subsection}
 use Rattle.format.proofs.Elements.{some-inj}

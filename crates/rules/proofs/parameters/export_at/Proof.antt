@@ -1,14 +1,14 @@
 -- The first refusal of a subsection 0003 of a rule is that of its tests.
-use Rattle.rules.proofs.Laws.{byte-behind}
+use mathlib.Core.Path.{_≡_, refl, _∙_, ap}
+use Prim.Native.Nat.{ℕ, _+_}
+use native.Mathlib.Omega.{arith}
+use lib.ListN.{drop}
+use borrow.Author.Tests.{eq-eqb, ne-eqb}
+use borrow.Author.Needs.{needs}
+use Rattle.format.specs.Bytes.{number, bytesAt}
 use Rattle.sections.specs.Refusals.{subHeadChecks}
 use Rattle.sections.proofs.Laws.{stop, pass, head-stop, head-pass, number-at, byte-number, room-for}
-use Rattle.format.specs.Bytes.{number, bytesAt}
-use borrow.Author.Tests.{eq-eqb, ne-eqb}
-use lib.ListN.{drop}
-use native.Mathlib.Omega.{arith}
-use Prim.Native.Nat.{ℕ, _+_}
-use mathlib.Core.Path.{_≡_, refl, _∙_, ap}
-use borrow.Author.Needs.{needs}
+use Rattle.rules.proofs.Laws.{byte-behind}
 use Rattle.rules.proofs.parameters.export_at.Statement.{statement}
 use Rattle.rules.proofs.parameters.export_at.Tie as tie
 

@@ -1,14 +1,14 @@
 -- The first refusal of the fields of a 0003 is that of their tests.
-use Rattle.rules.proofs.Laws.{length-behind}
-use Rattle.sections.proofs.Laws.{stop, pass, none, zero-yes, zero-not, number-at, byte-number}
+use mathlib.Core.Path.{sym, _∙_, ap}
+use Prim.Native.Nat.{ℕ, _+_}
+use native.Mathlib.Omega.{arith}
+use lib.ListN.{drop}
+use borrow.Author.Tests.{le-leb, lt-leb, not-true, not-false}
+use borrow.Author.Needs.{needs}
 use Rattle.format.specs.Forms.{keyLength}
 use Rattle.format.specs.Bytes.{number, bytesAt}
-use borrow.Author.Tests.{le-leb, lt-leb, not-true, not-false}
-use lib.ListN.{drop}
-use native.Mathlib.Omega.{arith}
-use Prim.Native.Nat.{ℕ, _+_}
-use mathlib.Core.Path.{sym, _∙_, ap}
-use borrow.Author.Needs.{needs}
+use Rattle.sections.proofs.Laws.{stop, pass, none, zero-yes, zero-not, number-at, byte-number}
+use Rattle.rules.proofs.Laws.{length-behind}
 use Rattle.rules.proofs.parameters.export_fields.Statement.{statement}
 use Rattle.rules.proofs.parameters.export_fields.Tie as tie
 

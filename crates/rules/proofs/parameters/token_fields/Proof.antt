@@ -1,14 +1,14 @@
 -- The first refusal of the fields of a 0005 is that of their tests.
-use Rattle.rules.proofs.Laws.{length-behind, label-at, label-none, label-other, label-there}
-use Rattle.sections.proofs.Laws.{stop, pass, none, zero-yes, zero-not, byte-number}
+use mathlib.Core.Path.{sym, _∙_, ap}
+use Prim.Native.Nat.{ℕ, _+_}
+use native.Mathlib.Omega.{arith}
+use lib.ListN.{drop}
+use borrow.Author.Tests.{not-true, not-false}
+use borrow.Author.Needs.{needs}
 use Rattle.format.specs.Forms.{labelForm}
 use Rattle.format.specs.Bytes.{number, bytesAt}
-use borrow.Author.Tests.{not-true, not-false}
-use lib.ListN.{drop}
-use native.Mathlib.Omega.{arith}
-use Prim.Native.Nat.{ℕ, _+_}
-use mathlib.Core.Path.{sym, _∙_, ap}
-use borrow.Author.Needs.{needs}
+use Rattle.sections.proofs.Laws.{stop, pass, none, zero-yes, zero-not, byte-number}
+use Rattle.rules.proofs.Laws.{length-behind, label-at, label-none, label-other, label-there}
 use Rattle.rules.proofs.parameters.token_fields.Statement.{statement}
 use Rattle.rules.proofs.parameters.token_fields.Tie as tie
 

@@ -1,6 +1,6 @@
 -- No variant, or one of 8 to 255 bytes that is no shorter than the maximum.
-use borrow.Author.Tests.{ne-eqb, le-leb, lt-leb}
 use native.Mathlib.Omega.{arith}
+use borrow.Author.Tests.{ne-eqb, le-leb, lt-leb}
 use borrow.Author.Needs.{needs}
 use Rattle.rules.proofs.parameters.variant_length.Statement.{statement}
 use Rattle.rules.proofs.parameters.variant_length.Tie as tie

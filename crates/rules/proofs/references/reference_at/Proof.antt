@@ -1,13 +1,13 @@
 -- The first refusal of a subsection 0002 or 0004 of a rule is that of its tests.
+use mathlib.Core.Path.{refl, sym, _∙_}
+use Prim.Native.Nat.{_+_}
+use native.Mathlib.Omega.{arith}
+use lib.ListN.{drop}
+use borrow.Author.Tests.{not-true, not-false}
+use borrow.Author.Needs.{needs}
+use Rattle.format.specs.Forms.{ruleIdForm}
 use Rattle.sections.specs.Refusals.{subHeadChecks}
 use Rattle.sections.proofs.Laws.{stop, pass, none, head-stop, head-pass, zero-yes, zero-not, equal, unequal, byte-number, field-at, room-for}
-use Rattle.format.specs.Forms.{ruleIdForm}
-use borrow.Author.Tests.{not-true, not-false}
-use lib.ListN.{drop}
-use native.Mathlib.Omega.{arith}
-use Prim.Native.Nat.{_+_}
-use mathlib.Core.Path.{refl, sym, _∙_}
-use borrow.Author.Needs.{needs}
 use Rattle.rules.proofs.references.reference_at.Statement.{statement}
 use Rattle.rules.proofs.references.reference_at.Tie as tie
 

@@ -1,13 +1,13 @@
 -- The first refusal of a subsection 0001 of a rule is that of its tests.
+use mathlib.Core.Path.{refl}
+use Prim.Native.Nat.{_+_}
+use native.Mathlib.Omega.{arith}
+use lib.ListN.{drop}
+use borrow.Author.Tests.{eq-eqb, ne-eqb}
+use borrow.Author.Needs.{needs}
+use Rattle.format.specs.Bytes.{number, bytesAt}
 use Rattle.sections.specs.Refusals.{subHeadChecks}
 use Rattle.sections.proofs.Laws.{stop, pass, none, head-stop, head-pass, zero-yes, zero-not, number-at, byte-number, room-for}
-use Rattle.format.specs.Bytes.{number, bytesAt}
-use borrow.Author.Tests.{eq-eqb, ne-eqb}
-use lib.ListN.{drop}
-use native.Mathlib.Omega.{arith}
-use Prim.Native.Nat.{_+_}
-use mathlib.Core.Path.{refl}
-use borrow.Author.Needs.{needs}
 use Rattle.rules.proofs.references.variant_at.Statement.{statement}
 use Rattle.rules.proofs.references.variant_at.Tie as tie
 

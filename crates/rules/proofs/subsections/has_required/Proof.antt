@@ -1,11 +1,10 @@
 -- What is required of a rule, by its flags and its subsections.
-use Rattle.rules.proofs.Ends.{required-free, required-there, required-told}
-use Rattle.format.specs.Parts.{rule}
-use Rattle.sections.proofs.Laws.{number-at}
-use borrow.Author.Tests.{not-true, not-false}
-use lib.ListN.{drop}
 use mathlib.Core.Path.{_∙_}
+use lib.ListN.{drop}
+use borrow.Author.Tests.{not-true, not-false}
 use borrow.Author.Needs.{needs}
+use Rattle.sections.proofs.Laws.{number-at}
+use Rattle.rules.proofs.Ends.{required-free, required-there, required-told}
 use Rattle.rules.proofs.subsections.has_required.Statement.{statement}
 use Rattle.rules.proofs.subsections.has_required.Tie as tie
 

@@ -1,17 +1,17 @@
 -- The mask of a 0005 against the minimum of a 0003.
-use Rattle.rules.proofs.Ends.{mask-free, mask-both}
-use Rattle.rules.proofs.Places.{some-place, standing-none, standing-one}
-use Rattle.sections.proofs.InformationLaws.{mask-none}
+use mathlib.Core.Path.{sym, _∙_}
+use Prim.Native.Nat.{_+_}
+use native.Mathlib.Omega.{arith}
+use lib.ListN.{getD, drop}
+use borrow.Author.Tests.{ne-eqb}
 use Rattle.format.specs.Reading.{partIn}
 use Rattle.format.specs.Parts.{exportParameters, tokenParameters}
-use Rattle.rules.proofs.Laws.{length-behind}
-use Rattle.sections.proofs.Laws.{number-at, byte-number}
 use Rattle.format.specs.Bytes.{number, bytesAt}
-use borrow.Author.Tests.{ne-eqb}
-use lib.ListN.{getD, drop}
-use native.Mathlib.Omega.{arith}
-use Prim.Native.Nat.{_+_}
-use mathlib.Core.Path.{sym, _∙_}
+use Rattle.sections.proofs.InformationLaws.{mask-none}
+use Rattle.sections.proofs.Laws.{number-at, byte-number}
+use Rattle.rules.proofs.Ends.{mask-free, mask-both}
+use Rattle.rules.proofs.Places.{some-place, standing-none, standing-one}
+use Rattle.rules.proofs.Laws.{length-behind}
 use Rattle.rules.proofs.subsections.mask_covers.Statement.{statement}
 use Rattle.rules.proofs.subsections.mask_covers.Tie as tie
 

@@ -1,12 +1,11 @@
 -- The number of a rule's subsection is that of its kind, by its tag.
-use Rattle.rules.proofs.Turns.{tag-five, tag-past, rule-known}
-use Rattle.sections.proofs.Subs.{sub-short, sub-unknown, at-here}
-use Rattle.format.specs.Parts.{rule, transportVariant, transportRule, exportParameters, sourceRule, tokenParameters, subsectionKind}
-use Rattle.format.specs.Bytes.{number}
-use lib.ListN.{drop}
 use mathlib.Core.Logic.{⊎-elim}
 use mathlib.Core.Path.{refl, sym, _∙_, ap}
+use lib.ListN.{drop}
 use borrow.Author.Needs.{needs}
+use Rattle.format.specs.Parts.{rule, transportVariant, transportRule, exportParameters, sourceRule, tokenParameters, subsectionKind}
+use Rattle.sections.proofs.Subs.{sub-short, sub-unknown, at-here}
+use Rattle.rules.proofs.Turns.{tag-five, tag-past, rule-known}
 use Rattle.rules.proofs.subsections.rule_sub.Statement.{statement}
 use Rattle.rules.proofs.subsections.rule_sub.Tie as tie
 

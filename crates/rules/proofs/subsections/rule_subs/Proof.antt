@@ -1,33 +1,20 @@
 -- The loop over the subsections of a rule: what is read from here is what is read from the first one on.
+use mathlib.Core.Bool.{Bool, false}
+use mathlib.Core.Path.{_≡_, refl, sym, _∙_}
+use Prim.Native.Nat.{_+_, _-_}
+use native.Mathlib.Omega.{arith}
+use lib.ListN.{drop}
+use borrow.Author.Tests.{not-true, not-false}
+use borrow.Author.Needs.{needs}
+use Rattle.format.specs.Parts.{rule, exportParameters, tokenParameters}
+use Rattle.format.specs.Bytes.{number, bytesAt}
+use Rattle.sections.specs.Refusals.{subRefusal, sectionRows}
+use Rattle.sections.proofs.Subs.{refused-told, refused-same, refused-then, loop-stops, loop-room}
+use Rattle.sections.proofs.Heads.{section-rest}
+use Rattle.rules.specs.Loops.{RuleRead}
 use Rattle.rules.proofs.Ends.{ends-masked, ends-missing, ends-there}
 use Rattle.rules.proofs.Turns.{rule-start, tag-six, turn-on}
 use Rattle.rules.proofs.Places.{place-small, once-has}
-use Rattle.rules.specs.Loops.{RuleRead}
-use Rattle.sections.proofs.Subs.{refused-told, refused-same, refused-then, loop-stops, loop-room}
-use Rattle.sections.specs.Refusals.{subRefusal, sectionRows}
-use Rattle.format.specs.Parts.{rule, exportParameters, tokenParameters}
-use Rattle.format.specs.Bytes.{number, bytesAt}
-use borrow.Author.Tests.{not-true, not-false}
-use lib.ListN.{drop}
-use Prim.Native.Nat.{_+_, _-_}
-use mathlib.Core.Bool.{Bool, false}
-use mathlib.Core.Path.{_≡_, refl, sym, _∙_}
--- The loop over the subsections of a rule: what is read from here is what is read from the first one on.
-use Rattle.rules.proofs.Ends.{ends-masked, ends-missing, ends-there}
-use Rattle.rules.proofs.Turns.{rule-start, tag-six, turn-on}
-use Rattle.rules.proofs.Places.{once-has}
-use Rattle.rules.specs.Loops.{RuleRead}
-use Rattle.sections.proofs.Heads.{section-rest}
-use Rattle.sections.proofs.Subs.{refused-told, refused-same, refused-then, loop-stops, loop-room}
-use Rattle.sections.specs.Refusals.{sectionRows}
-use Rattle.format.specs.Parts.{rule, exportParameters, tokenParameters}
-use Rattle.format.specs.Bytes.{number, bytesAt}
-use borrow.Author.Tests.{not-true, not-false}
-use borrow.Author.Needs.{needs}
-use native.Mathlib.Omega.{arith}
-use Prim.Native.Nat.{_+_, _-_}
-use mathlib.Core.Bool.{false}
-use mathlib.Core.Path.{_≡_, refl, sym, _∙_}
 use Rattle.rules.proofs.subsections.rule_subs.Statement.{statement}
 use Rattle.rules.proofs.subsections.rule_subs.Tie as tie
 
