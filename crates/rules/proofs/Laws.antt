@@ -9,9 +9,11 @@ use lib.Dec.{eqb}
 use lib.ListN.{length, getD, drop, length-drop}
 use borrow.Author.Tests.{ne-eqb}
 use Rattle.format.specs.Bytes.{number, bytesAt}
-use Rattle.format.specs.Rules.{controlLength, labelLength}
+use Rattle.format.specs.Forms.{keyLength}
+use Rattle.format.specs.Rules.{generatedLength, controlLength, labelLength}
 use Rattle.format.proofs.Slots.{length-at}
 use Rattle.sections.proofs.Laws.{at-drop, byte-number}
+use Rattle.rules.proofs.Places.{some-place}
 
 -- The byte at an offset that a count moves: the code's place i is the definition's offset o behind q.
 pub byte-behind : (s : List ℕ) (q o i : ℕ) {v : ℕ} → i < length s → i ≡ q + o → v ≡ getD s i 0 → v ≡ number (bytesAt (drop q s) o 1)
@@ -50,3 +52,17 @@ module _ (f : List ℕ) (n : ℕ) (l : length f ≡ n) where
 
   pub control-not : ((n ≡ 0) ⊎ ((n ≡ 8) ⊎ (n ≡ 16)) → ⊥) → false ≡ controlLength f
   control-not h = rw (l, ne-eqb n 0 (λ e. h (inl e)), ne-eqb n 8 (λ e. h (inr (inl e))), ne-eqb n 16 (λ e. h (inr (inr e))))
+
+-- ---- the generated length of a rule, by its flags
+
+module _ (f g : List ℕ) {v : ℕ} (e : v ≡ number f) where
+  -- That of a generate rule is the length of a key.
+  pub generated-key : {b : Bool} → v ≡ 0 → b ≡ keyLength (number g) → b ≡ generatedLength f g
+  generated-key z h = h ∙ ap (λ (i : ℕ). eqb i 1 || keyLength (number g)) (sym z ∙ e)
+
+  -- That of an export rule is any byte.
+  pub generated-any : v ≤ 1 → (v ≡ 0 → ⊥) → generatedLength f g ≡ true
+  generated-any h z =
+      let pos = some-place v z in
+      let one : number f ≡ 1 = omega (arith, e) in
+      ap (λ (i : ℕ). eqb i 1 || keyLength (number g)) one
