@@ -9,7 +9,7 @@ use native.Mathlib.Omega.{arith}
 use lib.Dec.{eqb, ltb, leb}
 use lib.ListN.{length, getD, set, drop, length-drop, length-set, replicate, length-replicate, getD-replicate}
 use lib.Seq.{getD-set-same, getD-set-other}
-use borrow.Author.Tests.{eqb-true, eqb-false, ne-eqb, ltb-true, not-true}
+use borrow.Author.Tests.{eqb-true, ne-eqb, ltb-true, not-true}
 use Rattle.format.specs.Bytes.{number, bytesAt}
 use Rattle.format.specs.Parts.{Kind, rule, transportVariant, transportRule, exportParameters, sourceRule, tokenParameters, tag, sameKind}
 use Rattle.format.specs.Parts.{subsectionKind, Part, size}
@@ -19,6 +19,7 @@ use Rattle.format.proofs.Elements.{some-inj}
 use Rattle.format.proofs.Finding.{every-kind, sameKind-eq, subsectionKind-sound}
 use Rattle.format.proofs.Tests.{needed, tests-passed}
 use Rattle.format.proofs.Turns.{subsectionsFrom}
+use Rattle.rule_ids.proofs.Laws.{same-or}
 use Rattle.sections.specs.Refusals.{firstRefusal, subRefusal}
 use Rattle.sections.proofs.Laws.{at-drop}
 use Rattle.sections.proofs.Subs.{FoundAs, sub-finds, sub-known, at-here, loop-room, loop-on, length-last}
@@ -27,14 +28,6 @@ use Rattle.rules.proofs.Sizes.{part-size}
 use Rattle.rules.proofs.Places.{once-none, once-other, once-here}
 
 -- ---- tags
-
--- Two numbers are the same, or not.
-pub same-or : (x y : ℕ) → (x ≡ y) ⊎ (x ≡ y → ⊥)
-same-or x y = go (eqb x y) refl
-  where
-    go : (b : Bool) → eqb x y ≡ b → (x ≡ y) ⊎ (x ≡ y → ⊥)
-    go true e = inl (eqb-true x y e)
-    go false e = inr (eqb-false x y e)
 
 -- The last of the tags of a rule.
 pub tag-five : (t : ℕ) → (t ≡ 0 → ⊥) → t ≤ 5 → (t ≡ 1 → ⊥) → ((t ≡ 2) ⊎ (t ≡ 4) → ⊥) → (t ≡ 3 → ⊥) → t ≡ 5
