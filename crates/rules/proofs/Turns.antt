@@ -73,7 +73,7 @@ other-tag j k d = go (sameKind j k) refl
     go false e = refl
 
 -- Every tag is below 6.
-tag-below : (k : Kind) → tag k < 6
+pub tag-below : (k : Kind) → tag k < 6
 tag-below k = ltb-true (tag k) 6 (every-kind (λ j. ltb (tag j) 6) refl k)
 
 -- ---- a subsection of a kind
@@ -101,7 +101,7 @@ sub-new x o k before at n r e f =
 -- ---- a turn of the loop
 
 -- Before the first subsection no tag stands.
-pub rule-start : (s : List ℕ) (p e : ℕ) → p + 20 ≤ e → RuleRead s p e (p + 20) 1 (replicate 6 0)
+unfoldable pub rule-start : (s : List ℕ) (p e : ℕ) → p + 20 ≤ e → RuleRead s p e (p + 20) 1 (replicate 6 0)
 rule-start s p e h =
     record {
       done = [];
