@@ -7,6 +7,7 @@ use Prim.Native.Nat.{ℕ, zero, suc, _+_, _-_, _<_, _≤_}
 use native.Mathlib.Omega.{arith}
 use lib.Dec.{eqb, leb}
 use lib.ListN.{length, getD, drop, length-drop}
+use lib.Seq.{drop-drop}
 use borrow.Author.Tests.{eqb-true, eqb-false, le-leb, not-true}
 use Rattle.format.specs.Bytes.{number, bytesAt, allZero}
 use Rattle.format.specs.Parts.{Kind, rule, information, sameKind, sectionKind, Part}
@@ -75,6 +76,20 @@ head-room {h} m seen s p e z =
     let v = version-case (allZero (bytesAt r 1 1)) h _ e z in
     let c = room-case (leb m (stated r)) (leb (stated r) (length r)) h _ 6 m (stated r) (length r) refl refl (λ q. omega arith) z v in
     (c .0, omega (arith, c .1))
+
+-- Behind its own fields a section that ends at e is its subsections and its end.
+pub section-rest : (full x : Bool) (k : Kind) (s : List ℕ) (p e : ℕ) → p + madeLength k (drop p s) ≤ e → e ≡ p + stated (drop p s)
+    → sectionRest full x k p (drop p s)
+    ≡ andThen (subsectionsFrom x k [] (p + madeLength k (drop p s)) (e - (p + madeLength k (drop p s))) (drop (p + madeLength k (drop p s)) s))
+    (λ us. closed full p (p + madeLength k (drop p s)) (record { head = partIn k (drop p s); subs = us }))
+unfolding sectionRest
+section-rest full x k s p e h l =
+    let n : ℕ = stated (drop p s) in
+    let m : ℕ = madeLength k (drop p s) in
+    let left : n - m ≡ e - (p + m) = omega arith in
+    ap (λ o. andThen o (λ us. closed full p (p + m) (record { head = partIn k (drop p s); subs = us })))
+    (subs-from (suc n) x k [] (p + m) (n - m) (drop m (drop p s)) (omega arith)
+    ∙ ap₂ (λ (a : ℕ) (y : List ℕ). subsectionsFrom x k [] (p + m) a y) left (drop-drop m p s))
 
 -- A section without subsections whose counts make its length is found as it is.
 pub plain-rest : (full x : Bool) (k : Kind) (p : ℕ) (r : List ℕ) → madeLength k r ≡ stated r → sameKind rule k ≡ false → sameKind information k ≡ false

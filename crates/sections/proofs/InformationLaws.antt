@@ -8,7 +8,6 @@ use Prim.Native.Nat.{ℕ, zero, suc, _+_, _-_, _<_, _≤_}
 use native.Mathlib.Omega.{arith}
 use lib.Dec.{eqb}
 use lib.ListN.{length, drop, length-append}
-use lib.Seq.{drop-drop}
 use borrow.Author.Tests.{eqb-true, eq-eqb, ne-eqb}
 use Rattle.format.specs.Bytes.{number, bytesAt}
 use Rattle.format.specs.Layout.{least}
@@ -19,10 +18,10 @@ use Rattle.format.specs.declared.Answer.{Answer}
 use Rattle.format.specs.declared.Answer.the-variants.{Accepted, Refused}
 use Rattle.format.proofs.Finding.{kind-told, subsectionKind-sound, every-kind}
 use Rattle.format.proofs.Tests.{then-found, need-passed}
-use Rattle.format.proofs.Turns.{subsectionsFrom, subs-from, subs-none, subs-more, sub-step}
+use Rattle.format.proofs.Turns.{subsectionsFrom, subs-none}
 use Rattle.sections.specs.Refusals.{subRefusal, sectionRows}
 use Rattle.sections.specs.Loops.{InformationRead}
-use Rattle.sections.proofs.Laws.{at-drop}
+use Rattle.sections.proofs.Heads.{section-rest}
 use Rattle.sections.proofs.Subs.{GoesOn, RefusedAs, refused-told, refused-then, refused-same, has-last, length-last}
 
 -- ---- lists with one part more
@@ -97,13 +96,7 @@ pub information-rest : (full x : Bool) (s : List ℕ) (p e : ℕ) → p + 10 ≤
     → sectionRest full x information p (drop p s)
     ≡ andThen (subsectionsFrom x information [] (p + 10) (e - (p + 10)) (drop (p + 10) s))
     (λ us. closed full p (p + 10) (record { head = partIn information (drop p s); subs = us }))
-unfolding sectionRest
-information-rest full x s p e h l =
-    let n : ℕ = stated (drop p s) in
-    let left : n - 10 ≡ e - (p + 10) = omega arith in
-    ap (λ o. andThen o (λ us. closed full p (p + 10) (record { head = partIn information (drop p s); subs = us })))
-    (subs-from (suc n) x information [] (p + 10) (n - 10) (drop 10 (drop p s)) (omega arith)
-    ∙ ap₂ (λ (a : ℕ) (y : List ℕ). subsectionsFrom x information [] (p + 10) a y) left (drop-drop 10 p s))
+information-rest full x s p e h l = section-rest full x information s p e h l
 
 -- Where no 0005 is, 0005 and 0003 stand in no relation.
 pub mask-none : (us : List Part) → ofKind tokenParameters us ≡ [] → maskCovers us ≡ true

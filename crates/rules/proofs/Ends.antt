@@ -1,0 +1,113 @@
+-- The end of a rule: what its subsections owe each other, and what is required. Assumes nothing.
+use mathlib.Core.Path.{_≡_, refl, sym, ap, ap₂, _∙_}
+use mathlib.Core.Bool.{Bool, true, false, not, _&&_, _||_}
+use mathlib.Core.List.{List, [], _∷_}
+use Prim.Native.Nat.{ℕ, zero, suc, _+_, _-_, _<_, _≤_}
+use native.Mathlib.Omega.{arith}
+use lib.Dec.{eqb, leb}
+use lib.ListN.{length, getD, drop}
+use Rattle.format.specs.Bytes.{number, bytesAt}
+use Rattle.format.specs.Parts.{rule, exportParameters, tokenParameters, Part}
+use Rattle.format.specs.Rules.{has, ofKind, each, maskCovers, hasRequired}
+use Rattle.format.specs.Reading.{found, fault, need, told, stated, placeOf, closed, sectionRest}
+use Rattle.format.specs.declared.Answer.the-variants.{Accepted, Refused}
+use Rattle.format.proofs.Tests.{then-found}
+use Rattle.format.proofs.Turns.{subsectionsFrom, subs-none}
+use Rattle.sections.specs.Refusals.{sectionRows}
+use Rattle.sections.proofs.Heads.{section-rest}
+use Rattle.sections.proofs.InformationLaws.{or-true, or-false, mask-none}
+use Rattle.rules.specs.Loops.{ruleOf, standing, RuleRead}
+use Rattle.rules.proofs.Places.{here-one, standing-none}
+
+-- ---- 0005 against 0003
+
+and-true : (b : Bool) → (b && true) ≡ b
+and-true true = refl
+and-true false = refl
+
+-- Where each part passes a test, all do.
+each-part : (f : Part → Bool) → ((p : Part) → f p ≡ true) → (us : List Part) → each f us ≡ true
+each-part f h [] = refl
+each-part f h (u ∷ us) = ap₂ (λ (a b : Bool). a && b) (h u) (each-part f h us)
+
+-- Where no 0003 is, every mask will do.
+pub mask-free : (us : List Part) → ofKind exportParameters us ≡ [] → maskCovers us ≡ true
+mask-free us e =
+    ap (λ (l : List Part). each (λ (p : Part). eqb (length (getD (p .fields) 0 [])) 0 || each (λ (q : Part). leb (number (getD (q .fields) 0 [])) (length (getD (p .fields) 0 []))) l) (ofKind tokenParameters us)) e
+    ∙ each-part _ (λ p. or-true (eqb (length (getD (p .fields) 0 [])) 0)) (ofKind tokenParameters us)
+
+-- With one of each, the mask is none or as long as the minimum.
+pub mask-both : (us : List Part) (u v : Part) {k m : ℕ} → ofKind exportParameters us ≡ u ∷ [] → ofKind tokenParameters us ≡ v ∷ []
+    → number (getD (u .fields) 0 []) ≡ k → length (getD (v .fields) 0 []) ≡ m → maskCovers us ≡ (eqb m 0 || leb k m)
+mask-both us u v e f a b =
+    ap₂ (λ (l o : List Part). each (λ (p : Part). eqb (length (getD (p .fields) 0 [])) 0 || each (λ (q : Part). leb (number (getD (q .fields) 0 [])) (length (getD (p .fields) 0 []))) l) o) e f
+    ∙ and-true _
+    ∙ ap (λ (c : Bool). eqb (length (getD (v .fields) 0 [])) 0 || c) (and-true _)
+    ∙ ap₂ (λ (i j : ℕ). eqb j 0 || leb i j) a b
+
+-- A 0005 that is refused stands.
+mask-stands : (s : List ℕ) (us : List Part) (i : ℕ) → ofKind tokenParameters us ≡ standing s tokenParameters i → maskCovers us ≡ false → 0 < i
+mask-stands s us zero e f =
+    let t : maskCovers us ≡ true = mask-none us (e ∙ standing-none s tokenParameters refl) in
+    absurd (let z : _≡_ {A = ℕ} 0 1 = cc in omega arith)
+mask-stands s us (suc i) e f = omega arith
+
+-- ---- what is required
+
+-- An export rule has a 0003.
+pub rule-required : (r : List ℕ) (us : List Part) → hasRequired (ruleOf r us) ≡ (not (eqb (number (bytesAt r 12 4)) 1) || has exportParameters us)
+rule-required r us = and-true (not (eqb (number (bytesAt r 12 4)) 1) || has exportParameters us)
+
+module _ (r : List ℕ) (us : List Part) (full : Bool) where
+  -- Nothing in a draft; in a token an export rule has a 0003.
+  pub required-free : full ≡ false → true ≡ (not full || hasRequired (ruleOf r us))
+  required-free e = rw e
+
+  pub required-there : has exportParameters us ≡ true → true ≡ (not full || hasRequired (ruleOf r us))
+  required-there e =
+      sym
+      (ap (λ (b : Bool). not full || b)
+      (rule-required r us ∙ ap (λ (b : Bool). not (eqb (number (bytesAt r 12 4)) 1) || b) e ∙ or-true (not (eqb (number (bytesAt r 12 4)) 1)))
+      ∙ or-true (not full))
+
+  pub required-told : {v : ℕ} → full ≡ true → has exportParameters us ≡ false → v ≡ number (bytesAt r 12 4)
+      → not (eqb v 1) ≡ (not full || hasRequired (ruleOf r us))
+  required-told {v} f e l =
+      sym
+      (ap (λ (b : Bool). not b || hasRequired (ruleOf r us)) f
+      ∙ rule-required r us
+      ∙ ap₂ (λ (i : ℕ) (b : Bool). not (eqb i 1) || b) (sym l) e
+      ∙ or-false (not (eqb v 1)))
+
+-- ---- the whole section
+
+module _ {s : List ℕ} {p e q n : ℕ} {places : List ℕ} (full x : Bool) (w : RuleRead s p e q n places) (h : e ≤ q) (k : p + 20 ≤ e)
+    (l : e ≡ p + stated (drop p s)) where
+  -- What the loop has read when it ends is all of the section.
+  rule-end : sectionRest full x rule p (drop p s)
+      ≡ need (maskCovers (w .done)) (fault 18 (placeOf tokenParameters (p + 20) (w .done)) 5)
+      (need (not full || hasRequired (ruleOf (drop p s) (w .done))) (fault 20 p 0) (found (ruleOf (drop p s) (w .done))))
+  unfolding closed
+  rule-end =
+      let zero : e - q ≡ 0 = omega arith in
+      section-rest full x rule s p e k l
+      ∙ then-found _
+      (sym (w .same x) ∙ ap (λ (a : ℕ). subsectionsFrom x rule (w .done) q a (drop q s)) zero ∙ subs-none x rule (w .done) q (drop q s))
+
+  -- The rule is refused with 18 at its 0005, or with 20, or accepted with its rows.
+  pub ends-masked : maskCovers (w .done) ≡ false → Refused 18 (getD places 5 0) ≡ told sectionRows (sectionRest full x rule p (drop p s))
+  unfolding told need
+  ends-masked b =
+      let o = w .once tokenParameters refl in
+      let stands : placeOf tokenParameters (p + 20) (w .done) ≡ getD places 5 0 = o .stands ∙ here-one (getD places 5 0) q (mask-stands s (w .done) (getD places 5 0) (o .parts) b) in
+      ap (λ (i : ℕ). Refused 18 i) (sym stands) ∙ sym (ap (told sectionRows) rule-end ∙ rw b)
+
+  pub ends-missing : maskCovers (w .done) ≡ true → (not full || hasRequired (ruleOf (drop p s) (w .done))) ≡ false
+      → Refused 20 p ≡ told sectionRows (sectionRest full x rule p (drop p s))
+  unfolding told need
+  ends-missing a b = sym (ap (told sectionRows) rule-end ∙ rw (a, b))
+
+  pub ends-there : maskCovers (w .done) ≡ true → (not full || hasRequired (ruleOf (drop p s) (w .done))) ≡ true
+      → Accepted n ≡ told sectionRows (sectionRest full x rule p (drop p s))
+  unfolding told need
+  ends-there a b = ap Accepted (w .rows) ∙ sym (ap (told sectionRows) rule-end ∙ rw (a, b))

@@ -1,0 +1,157 @@
+-- The parts of a kind in a list with one part more, and their place. Assumes nothing.
+use mathlib.Core.Path.{_≡_, refl, sym, ap, ap₂, _∙_}
+use mathlib.Core.Bool.{Bool, true, false, not, _||_}
+use mathlib.Core.List.{List, [], _∷_, _++_}
+use Prim.Native.Nat.{ℕ, zero, suc, _+_, _<_, _≤_}
+use native.Mathlib.Omega.{arith}
+use lib.Dec.{eqb}
+use lib.ListN.{length, drop}
+use borrow.Author.Tests.{ne-eqb, eqb-true, not-false}
+use Rattle.format.specs.Parts.{Kind, sameKind, Part, size}
+use Rattle.format.specs.Rules.{has, ofKind}
+use Rattle.format.specs.Reading.{madeLength, partIn, placeOf}
+use Rattle.format.proofs.Finding.{sameKind-refl}
+use Rattle.rules.specs.Loops.{standing, orHere, Within, Once}
+
+-- ---- one part more
+
+-- The parts of a kind in a list with one part more, where that is of another kind or of this one.
+kind-other : (k : Kind) (us : List Part) (u : Part) → sameKind k (u .kind) ≡ false → ofKind k (us ++ u ∷ []) ≡ ofKind k us
+kind-other k [] u e = ap (λ (b : Bool). elim b as (λ y. List Part) [ true ↦ u ∷ [] | false ↦ [] ]) e
+kind-other k (v ∷ us) u e =
+    ap (λ (l : List Part). elim (sameKind k (v .kind)) as (λ y. List Part) [ true ↦ v ∷ l | false ↦ l ]) (kind-other k us u e)
+
+kind-same : (k : Kind) (us : List Part) (u : Part) → sameKind k (u .kind) ≡ true → ofKind k us ≡ [] → ofKind k (us ++ u ∷ []) ≡ u ∷ []
+kind-same k [] u e h = ap (λ (b : Bool). elim b as (λ y. List Part) [ true ↦ u ∷ [] | false ↦ [] ]) e
+kind-same k (v ∷ us) u e h = go (sameKind k (v .kind)) h (λ q. kind-same k us u e q)
+  where
+    go : (b : Bool) → _≡_ {A = List Part} (elim b [ true ↦ v ∷ ofKind k us | false ↦ ofKind k us ]) []
+        → (ofKind k us ≡ [] → ofKind k (us ++ u ∷ []) ≡ u ∷ [])
+        → _≡_ {A = List Part} (elim b [ true ↦ v ∷ ofKind k (us ++ u ∷ []) | false ↦ ofKind k (us ++ u ∷ []) ]) (u ∷ [])
+    go true q ih = absurd (let z : _≡_ {A = ℕ} 0 1 = cc in omega arith)
+    go false q ih = ih q
+
+-- A kind stands among parts where there are parts of it.
+pub has-of : (k : Kind) (us : List Part) → has k us ≡ elim (ofKind k us) as (λ y. Bool) [ [] ↦ false | v ∷ vs ↦ true ]
+has-of k [] = refl
+has-of k (u ∷ us) = go (sameKind k (u .kind)) (has-of k us)
+  where
+    go : (b : Bool) → has k us ≡ elim (ofKind k us) as (λ y. Bool) [ [] ↦ false | v ∷ vs ↦ true ]
+        → (b || has k us)
+        ≡ elim (elim b as (λ y. List Part) [ true ↦ u ∷ ofKind k us | false ↦ ofKind k us ]) as (λ y. Bool) [ [] ↦ false | v ∷ vs ↦ true ]
+    go true ih = refl
+    go false ih = ih
+
+-- ---- the place of a kind, with one part more
+
+-- Where a part of the kind stands, its place stays.
+place-kept : (k : Kind) (at : ℕ) (us : List Part) (u : Part) → has k us ≡ true → placeOf k at (us ++ u ∷ []) ≡ placeOf k at us
+place-kept k at [] u e = absurd (let z : _≡_ {A = ℕ} 0 1 = cc in omega arith)
+place-kept k at (v ∷ us) u e = go (sameKind k (v .kind)) e (λ q. place-kept k (at + size v) us u q)
+  where
+    go : (b : Bool) → (b || has k us) ≡ true
+        → (has k us ≡ true → placeOf k (at + size v) (us ++ u ∷ []) ≡ placeOf k (at + size v) us)
+        → _≡_ {A = ℕ} (elim b [ true ↦ at | false ↦ placeOf k (at + size v) (us ++ u ∷ []) ]) (elim b [ true ↦ at | false ↦ placeOf k (at + size v) us ])
+    go true q ih = refl
+    go false q ih = ih q
+
+-- Where none stands, it is the end: moved by the part's size, or now the place of that part.
+place-new : (k : Kind) (at : ℕ) (us : List Part) (u : Part) → has k us ≡ false
+    → placeOf k at (us ++ u ∷ []) ≡ elim (sameKind k (u .kind)) as (λ y. ℕ) [ true ↦ placeOf k at us | false ↦ placeOf k at us + size u ]
+place-new k at [] u e = refl
+place-new k at (v ∷ us) u e = go (sameKind k (v .kind)) e (λ q. place-new k (at + size v) us u q)
+  where
+    go : (b : Bool) → (b || has k us) ≡ false
+        → (has k us ≡ false
+        → placeOf k (at + size v) (us ++ u ∷ [])
+        ≡ elim (sameKind k (u .kind)) as (λ y. ℕ) [ true ↦ placeOf k (at + size v) us | false ↦ placeOf k (at + size v) us + size u ])
+        → _≡_ {A = ℕ} (elim b [ true ↦ at | false ↦ placeOf k (at + size v) (us ++ u ∷ []) ])
+        (elim (sameKind k (u .kind)) [
+          | true ↦ elim b as (λ y. ℕ) [ true ↦ at | false ↦ placeOf k (at + size v) us ]
+          | false ↦ elim b as (λ y. ℕ) [ true ↦ at | false ↦ placeOf k (at + size v) us ] + size u
+        ])
+    go true q ih = absurd (let z : _≡_ {A = ℕ} 0 1 = cc in omega arith)
+    go false q ih = ih q
+
+-- ---- a kind that stands at most once
+
+-- A place that is not 0 is a number above 0.
+pub some-place : (n : ℕ) → (n ≡ 0 → ⊥) → 0 < n
+some-place zero h = absurd (h refl)
+some-place (suc n) h = omega arith
+
+-- A place is no further than the bytes reach.
+pub place-small : (s : List ℕ) (k : Kind) (i : ℕ) → Within s k i → i ≤ length s
+place-small s k zero h = omega arith
+place-small s k (suc i) h = let b = h (omega arith) in omega arith
+
+-- The part at a place, and none where it is 0.
+pub standing-none : (s : List ℕ) (k : Kind) {i : ℕ} → i ≡ 0 → standing s k i ≡ []
+unfolding standing
+standing-none s k e = rw e
+
+pub standing-one : (s : List ℕ) (k : Kind) (i : ℕ) → 0 < i → standing s k i ≡ partIn k (drop i s) ∷ []
+unfolding standing
+standing-one s k zero h = absurd (omega arith)
+standing-one s k (suc i) h = refl
+
+-- The place of a part that stands.
+pub here-one : (i q : ℕ) → 0 < i → orHere i q ≡ i
+unfolding orHere
+here-one zero q h = absurd (omega arith)
+here-one (suc i) q h = refl
+
+-- A kind stands among the parts where its place is not 0.
+not-none : (i : ℕ) → not (eqb (suc i) 0) ≡ true
+not-none i = ap not (ne-eqb (suc i) 0 (λ e. omega arith))
+
+standing-told : (s : List ℕ) (k : Kind) (i : ℕ)
+    → elim (standing s k i) as (λ y. Bool) [ [] ↦ false | v ∷ vs ↦ true ] ≡ not (eqb i 0)
+unfolding standing
+standing-told s k zero = refl
+standing-told s k (suc i) = sym (not-none i)
+
+pub once-has : {s : List ℕ} {first q : ℕ} {us : List Part} {k : Kind} {i : ℕ} → Once s first q us k i → has k us ≡ not (eqb i 0)
+once-has {s} {us = us} {k = k} {i = i} o =
+    has-of k us
+    ∙ ap (λ (l : List Part). elim l as (λ y. Bool) [ [] ↦ false | v ∷ vs ↦ true ]) (o .parts)
+    ∙ standing-told s k i
+
+-- A place that is 0 before the first part: none stands.
+pub once-none : (s : List ℕ) (first : ℕ) (k : Kind) → Once s first first [] k 0
+unfolding standing orHere
+once-none s first k = record { parts = refl; stands = refl; within = λ h. absurd (omega arith) }
+
+-- A part of another kind behind the earlier ones.
+other-place : {s : List ℕ} {first q : ℕ} {us : List Part} {k : Kind} (i : ℕ) (u : Part) (t : ℕ) → Once s first q us k i
+    → sameKind k (u .kind) ≡ false → size u ≡ t → placeOf k first (us ++ u ∷ []) ≡ orHere i (q + t)
+unfolding orHere
+other-place {first = first} {q = q} {us = us} {k = k} zero u t o e l =
+    place-new k first us u (once-has o)
+    ∙ ap (λ (b : Bool). elim b as (λ y. ℕ) [ true ↦ placeOf k first us | false ↦ placeOf k first us + size u ]) e
+    ∙ ap₂ (λ (a b : ℕ). a + b) (o .stands) l
+other-place {first = first} {us = us} {k = k} (suc i) u t o e l = place-kept k first us u (once-has o ∙ not-none i) ∙ o .stands
+
+pub once-other : {s : List ℕ} {first q : ℕ} {us : List Part} {k : Kind} {i : ℕ} (u : Part) {t : ℕ} → Once s first q us k i
+    → sameKind k (u .kind) ≡ false → size u ≡ t → Once s first (q + t) (us ++ u ∷ []) k i
+once-other {us = us} {k = k} {i = i} u {t = t} o e l =
+    record { parts = kind-other k us u e ∙ o .parts; stands = other-place i u t o e l; within = o .within }
+
+-- The first part of its kind behind the earlier ones.
+pub once-here : {s : List ℕ} {first q : ℕ} {us : List Part} {k : Kind} {i : ℕ} (t : ℕ) → Once s first q us k i → has k us ≡ false
+    → 0 < q → q + madeLength k (drop q s) ≤ length s → Once s first (q + t) (us ++ partIn k (drop q s) ∷ []) k q
+unfolding orHere
+once-here {s} {first} {q} {us} {k} {i} t o h pos fits =
+    let u : Part = partIn k (drop q s) in
+    let z : i ≡ 0 = eqb-true i 0 (not-false (eqb i 0) (sym (once-has o) ∙ h)) in
+    record {
+      parts =
+          kind-same k us u (sameKind-refl k) (o .parts ∙ standing-none s k z) ∙ sym (standing-one s k q pos);
+      stands =
+          place-new k first us u h
+          ∙ ap (λ (b : Bool). elim b as (λ y. ℕ) [ true ↦ placeOf k first us | false ↦ placeOf k first us + size u ]) (sameKind-refl k)
+          ∙ o .stands
+          ∙ ap (λ (a : ℕ). orHere a q) z
+          ∙ sym (here-one q (q + t) pos);
+      within = λ b. fits;
+    }

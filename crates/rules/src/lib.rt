@@ -1,0 +1,82 @@
+// Internal: section 12, the rule, with its five subsections. Each test is made once and in order. The functions ask that
+// the bytes are there that earlier tests have shown to be there.
+mod references; // references.rt: 0001, the transport variant; 0002 and 0004, the references to other rules
+mod parameters; // parameters.rt: 0003, the export parameters; 0005, the token parameters
+mod subsections; // subsections.rt: the loop over the subsections of a rule, and what they owe each other
+
+ghost use mathlib.Core.Path.{_≡_};
+ghost use mathlib.Core.Bool.{Bool};
+ghost use mathlib.Core.List.{List};
+ghost use Prim.Native.Nat.{_+_, _≤_};
+ghost use lib.ListN.{length, drop};
+ghost use Rattle.format.specs.Bytes.{number, bytesAt};
+ghost use Rattle.format.specs.Parts.{rule};
+ghost use Rattle.format.specs.Rules.{Section};
+ghost use Rattle.format.specs.Reading.{fieldChecks};
+ghost use Rattle.rule_ids.specs.Keys.{Room};
+ghost use Rattle.sections.specs.Refusals.{firstRefusal};
+ghost use Rattle.rules.specs.Ids.{Held, RuleAnswered};
+use crate::subsections::has_required;
+use crate::subsections::rule_subs;
+use fields::characters::rule_id_form;
+use fields::eight;
+use fields::four;
+use fields::keys::key_length;
+use fields::two;
+use fields::wide32;
+use format::Answer;
+use rule_ids::put;
+use sections::section_head;
+
+// The fields of the rule at p.
+fn rule_fields(s: &[u8], p: usize) -> u32
+    requires { ⌜ (p + 20 ≤ length (now s)) × (length (now s) ≤ 3500) ⌝ }
+    ensures { λ r. ⌜ ((x : Bool) → r ≡ firstRefusal (fieldChecks x rule (drop p (now (s .entry))))) ⌝ }
+{
+    if !rule_id_form(s, p + 4) {
+        return 17;
+    }
+    let flags = four(s, p + 12);
+    if 1 < flags {
+        return 11;
+    }
+    if flags == 0 && !key_length(s[p + 16]) {
+        return 11;
+    }
+    if 2 < s[p + 17] {
+        return 11;
+    }
+    if wide32(s[p + 18]) != flags {
+        return 11;
+    }
+    if 2 < s[p + 19] {
+        return 11;
+    }
+    0
+}
+
+// The rule at p, of which four bytes are there. The Rule IDs of the rules before it are in ids, and its own is put there.
+pub fn rule_at(s: &[u8], ids: &mut [u64; 704], p: usize, full: bool) -> Answer
+    requires { ⌜ (p + 4 ≤ length (now s)) × (length (now s) ≤ 3500) × (number (bytesAt (now s) p 1) ≡ 18) × Room (now ids) ⌝ }
+    ensures { λ r. ⌜ ((x : Bool) (before : List Section) → Held before p (now (ids .entry)) → RuleAnswered full x before (now (s .entry)) p (now (ids .exit)) r) ⌝ }
+{
+    let h = section_head(s, p, 20, false);
+    if h != 0 {
+        return Answer::Refused(h, p as u32);
+    }
+    let f = rule_fields(s, p);
+    if f != 0 {
+        return Answer::Refused(f, p as u32);
+    }
+    if put(ids, eight(s, p + 4)) {
+        return Answer::Refused(9, p as u32);
+    }
+    let len = two(s, p + 2);
+    if len != 20 {
+        return rule_subs(s, p, p + len, full);
+    }
+    if !has_required(s, p, full, false) {
+        return Answer::Refused(20, p as u32);
+    }
+    Answer::Accepted(1)
+}

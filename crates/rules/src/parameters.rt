@@ -1,0 +1,139 @@
+// Internal: the subsections of a rule that hold parameters: 0003, of the export, and 0005, of the token.
+ghost use mathlib.Core.Path.{_≡_};
+ghost use mathlib.Core.Bool.{Bool};
+ghost use mathlib.Core.List.{List};
+ghost use Prim.Native.Nat.{ℕ, _+_, _<_, _≤_};
+ghost use lib.ListN.{length, drop};
+ghost use Rattle.format.specs.Bytes.{number, bytesAt};
+ghost use Rattle.format.specs.Parts.{exportParameters, tokenParameters};
+ghost use Rattle.format.specs.Rules.{controlLength, variantLength};
+ghost use Rattle.format.specs.Reading.{fieldChecks, subsectionChecks};
+ghost use Rattle.sections.specs.Refusals.{firstRefusal};
+use fields::characters::label_form;
+use fields::keys::key_length;
+use fields::two;
+use fields::wide;
+use sections::subsection_head;
+
+// A control vector or mask of so many bytes may stand: none, 8 or 16.
+fn control_length(n: usize) -> bool
+    ensures { λ r. ⌜ ((f : List ℕ) → length f ≡ n → r ≡ controlLength f) ⌝ }
+{
+    match n {
+        0 | 8 | 16 => true,
+        _ => false,
+    }
+}
+
+// A variant of so many bytes may stand with this maximum: none, or 8 to 255 and no less than the maximum.
+fn variant_length(n: usize, maximum: u8) -> bool
+    requires { ⌜ n < 256 ⌝ }
+    ensures { λ r. ⌜ ((f g : List ℕ) → number f ≡ maximum → length g ≡ n → r ≡ variantLength f g) ⌝ }
+{
+    if n == 0 {
+        return true;
+    }
+    if n < 8 {
+        return false;
+    }
+    wide(maximum) <= n
+}
+
+// The fields of the subsection 0003 at q, with a variant of x bytes and control vectors of c bytes.
+fn export_fields(s: &[u8], q: usize, x: usize, c: usize) -> u32
+    requires { ⌜ (q + (12 + x + c) ≤ length (now s)) × (length (now s) ≤ 3500) × (x < 256) × (x ≡ number (bytesAt (drop q (now s)) 10 1)) × (c ≡ number (bytesAt (drop q (now s)) (11 + x) 1)) ⌝ }
+    ensures { λ r. ⌜ ((y : Bool) → r ≡ firstRefusal (fieldChecks y exportParameters (drop q (now (s .entry))))) ⌝ }
+{
+    if two(s, q + 5) != 0 {
+        return 10;
+    }
+    if s[q + 7] != 0 {
+        return 11;
+    }
+    let minimum = s[q + 8];
+    let maximum = s[q + 9];
+    if !key_length(minimum) {
+        return 18;
+    }
+    if !key_length(maximum) {
+        return 18;
+    }
+    if maximum < minimum {
+        return 18;
+    }
+    if !variant_length(x, maximum) {
+        return 18;
+    }
+    if !control_length(c) {
+        return 18;
+    }
+    0
+}
+
+// The subsection 0003 at q, where n bytes are left of its section; seen: one stands before.
+pub fn export_at(s: &[u8], q: usize, n: usize, seen: bool) -> u32
+    requires { ⌜ (4 ≤ n) × (q + n ≤ length (now s)) × (length (now s) ≤ 3500) ⌝ }
+    ensures { λ r. ⌜ ((x : Bool) → r ≡ firstRefusal (subsectionChecks x exportParameters seen n (drop q (now (s .entry))))) ⌝ }
+{
+    let h = subsection_head(s, q, n, 12, seen);
+    if h != 0 {
+        return h;
+    }
+    let len = two(s, q + 2);
+    let x = wide(s[q + 10]);
+    if len < 12 + x {
+        return 12;
+    }
+    let c = wide(s[q + 11 + x]);
+    if len != 12 + x + c {
+        return 12;
+    }
+    export_fields(s, q, x, c)
+}
+
+// The fields of the subsection 0005 at q, with masks of m bytes and a label template of z bytes.
+fn token_fields(s: &[u8], q: usize, m: usize, z: usize) -> u32
+    requires { ⌜ (q + (10 + m + m + z) ≤ length (now s)) × (length (now s) ≤ 3500) × (m ≡ number (bytesAt (drop q (now s)) 8 1)) × (z ≡ number (bytesAt (drop q (now s)) (9 + m + m) 1)) ⌝ }
+    ensures { λ r. ⌜ ((x : Bool) → r ≡ firstRefusal (fieldChecks x tokenParameters (drop q (now (s .entry))))) ⌝ }
+{
+    if two(s, q + 5) != 0 {
+        return 10;
+    }
+    if s[q + 7] != 0 {
+        return 11;
+    }
+    if !control_length(m) {
+        return 18;
+    }
+    if z == 0 {
+        return 0;
+    }
+    if z != 64 {
+        return 18;
+    }
+    if !label_form(s, q + 10 + m + m) {
+        return 17;
+    }
+    0
+}
+
+// The subsection 0005 at q, where n bytes are left of its section; seen: one stands before.
+pub fn token_at(s: &[u8], q: usize, n: usize, seen: bool) -> u32
+    requires { ⌜ (4 ≤ n) × (q + n ≤ length (now s)) × (length (now s) ≤ 3500) ⌝ }
+    ensures { λ r. ⌜ ((x : Bool) → r ≡ firstRefusal (subsectionChecks x tokenParameters seen n (drop q (now (s .entry))))) ⌝ }
+{
+    let h = subsection_head(s, q, n, 10, seen);
+    if h != 0 {
+        return h;
+    }
+    let len = two(s, q + 2);
+    let m = wide(s[q + 8]);
+    if len < 10 + m + m {
+        return 12;
+    }
+    let z = wide(s[q + 9 + m + m]);
+    if len != 10 + m + m + z {
+        return 12;
+    }
+    token_fields(s, q, m, z)
+}

@@ -1,0 +1,51 @@
+// Internal: the subsections of a rule that name other rules, 0002 and 0004, and the transport variant, 0001.
+ghost use mathlib.Core.Path.{_≡_};
+ghost use mathlib.Core.Bool.{Bool};
+ghost use Prim.Native.Nat.{_+_, _≤_};
+ghost use lib.ListN.{length, drop};
+ghost use Rattle.format.specs.Parts.{transportVariant, transportRule};
+ghost use Rattle.format.specs.Reading.{subsectionChecks};
+ghost use Rattle.sections.specs.Refusals.{firstRefusal};
+use fields::characters::rule_id_form;
+use fields::two;
+use fields::wide;
+use sections::subsection_head;
+
+// The subsection 0001 at q, where n bytes are left of its section; seen: one stands before.
+pub fn variant_at(s: &[u8], q: usize, n: usize, seen: bool) -> u32
+    requires { ⌜ (4 ≤ n) × (q + n ≤ length (now s)) × (length (now s) ≤ 3500) ⌝ }
+    ensures { λ r. ⌜ ((x : Bool) → r ≡ firstRefusal (subsectionChecks x transportVariant seen n (drop q (now (s .entry))))) ⌝ }
+{
+    let h = subsection_head(s, q, n, 8, seen);
+    if h != 0 {
+        return h;
+    }
+    if two(s, q + 2) != 8 + wide(s[q + 7]) {
+        return 12;
+    }
+    if two(s, q + 5) != 0 {
+        return 10;
+    }
+    0
+}
+
+// The subsection 0002 or 0004 at q, where n bytes are left of its section. Both have the same tests.
+pub fn reference_at(s: &[u8], q: usize, n: usize, seen: bool) -> u32
+    requires { ⌜ (4 ≤ n) × (q + n ≤ length (now s)) × (length (now s) ≤ 3500) ⌝ }
+    ensures { λ r. ⌜ ((x : Bool) → r ≡ firstRefusal (subsectionChecks x transportRule seen n (drop q (now (s .entry))))) ⌝ }
+{
+    let h = subsection_head(s, q, n, 14, seen);
+    if h != 0 {
+        return h;
+    }
+    if two(s, q + 2) != 14 {
+        return 12;
+    }
+    if s[q + 5] != 0 {
+        return 10;
+    }
+    if !rule_id_form(s, q + 6) {
+        return 17;
+    }
+    0
+}
