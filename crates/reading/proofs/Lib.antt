@@ -1,2 +1,4 @@
 pub mod Steps
 pub mod Others
+pub mod Notes
+pub mod Rules

@@ -20,7 +20,8 @@ use Rattle.format.specs.declared.Answer.{Answer}
 use Rattle.format.specs.declared.Answer.the-variants.{Accepted, Refused}
 use Rattle.format.proofs.Finding.{and-split, every-kind, sameKind-eq, sectionKind-sound, sectionKind-told}
 use Rattle.format.proofs.Sound.{kinds-differ}
-use Rattle.format.proofs.Tests.{refused-not, found-inj, needed, followed, then-found, tests-passed}
+use Rattle.format.specs.Forms.{ruleIdForm}
+use Rattle.format.proofs.Tests.{Hold, refused-not, found-inj, needed, followed, then-found, tests-passed}
 use Rattle.format.proofs.Turns.{sub-step, section-step, sectionsFrom, sections-more, sections-none}
 use Rattle.sections.specs.Refusals.{sectionRows}
 use Rattle.reading.specs.Progress.{Stands, Ahead, Marked, SectionsRead, sectionsAnswer}
@@ -41,6 +42,13 @@ subs-few (suc d) x o before at (suc m) r us e =
     let a = s .0 in
     let b = s .1 in
     omega arith
+
+-- The Rule ID of a rule has its form.
+rule-form : (x : Bool) (k : Kind) (seen repeated : Bool) (r : List ℕ) → Hold (sectionChecks x k seen repeated r) → sameKind rule k ≡ true
+    → ruleIdForm (getD (partIn k r .fields) 0 []) ≡ true
+rule-form x k seen repeated r h e =
+    subst (λ (y : Kind). Hold (sectionChecks x y seen repeated r) → ruleIdForm (getD (partIn y r .fields) 0 []) ≡ true) (sameKind-eq rule k e)
+    (λ w. w .1 .1 .1 .1 .0) h
 
 known : (full x : Bool) (k : Kind) (before : List Section) (at : ℕ) (r : List ℕ) (c : Section) → sectionKind (idOf r) ≡ some k
     → section full x before at r ≡ found c
@@ -66,6 +74,7 @@ known full x k before at r c q g e =
       four = four;
       ends = step .1;
       few = omega arith;
+      ruleId = rule-form x k (kindBefore k before) (ruleBefore (partIn k r) before) r (t .0);
     })
 
 -- A section that is found begins the bytes.
@@ -103,7 +112,7 @@ kind-more k (d ∷ ds) c = ap (λ (b : Bool). sameKind k (d .head .kind) || b) (
     or-assoc true b e = refl
     or-assoc false b e = refl
 
-rows-more : (before : List Section) (c : Section) → rowCount (before ++ c ∷ []) ≡ rowCount before + sectionRows c
+pub rows-more : (before : List Section) (c : Section) → rowCount (before ++ c ∷ []) ≡ rowCount before + sectionRows c
 rows-more [] c = let a = length-append (c .subs) [] in omega arith
 rows-more (d ∷ ds) c =
     let i = rows-more ds c in
@@ -112,7 +121,7 @@ rows-more (d ∷ ds) c =
     omega arith
 
 -- Two sections of one id are of one kind.
-some-same : {a b : Kind} → _≡_ {A = Option Kind} (some a) (some b) → a ≡ b
+pub some-same : {a b : Kind} → _≡_ {A = Option Kind} (some a) (some b) → a ≡ b
 some-same e = cc
 
 one-id : (j k : Kind) → isSubsection j ≡ false → isSubsection k ≡ false → sectionId j ≡ sectionId k → sameKind j k ≡ true
@@ -227,7 +236,7 @@ unknown-here s full x before p h e =
     rw (b, e)
 
 -- One section more is read.
-pub read-more : {n k l : ℕ} {seen later : List Bool} (s : List ℕ) (full x : Bool) (p : ℕ) (w : SectionsRead s full x p n seen) → p < length s
+unfoldable pub read-more : {n k l : ℕ} {seen later : List Bool} (s : List ℕ) (full x : Bool) (p : ℕ) (w : SectionsRead s full x p n seen) → p < length s
     → (f : Found s full x (w .before) p k) → l ≡ stated (drop p s) → Marked later (w .before ++ f .section ∷ [])
     → SectionsRead s full x (p + l) (n + k) later
 read-more {n} {k} {l} {seen} {later} s full x p w h f e m =
