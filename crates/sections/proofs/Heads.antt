@@ -6,22 +6,23 @@ use mathlib.Core.Option.{Option, none, some}
 use Prim.Native.Nat.{ℕ, zero, suc, _+_, _-_, _<_, _≤_}
 use native.Mathlib.Omega.{arith}
 use lib.Dec.{eqb, leb}
-use lib.ListN.{length, getD, drop, length-drop}
+use lib.ListN.{length, getD, drop, length-drop, length-append}
 use lib.Seq.{drop-drop}
 use borrow.Author.Tests.{le-leb, leb-true}
 use Rattle.format.specs.Bytes.{number, bytesAt, allZero}
-use Rattle.format.specs.Parts.{Kind, rule, information, sameKind, sectionKind, Part}
+use Rattle.format.specs.Parts.{Kind, rule, information, body, frameLength, sameKind, sectionKind, Part}
 use Rattle.format.specs.Rules.{Section, hasRequired}
 use Rattle.format.specs.Reading.{Outcome, refused, found, fault, need, andThen, tested, told, idOf, stated, madeLength, partIn}
-use Rattle.format.specs.Reading.{kindBefore, ruleBefore, sectionChecks, closed, sectionRest, section, subsections}
+use Rattle.format.specs.Reading.{kindBefore, ruleBefore, sectionChecks, closed, sectionRest, section, subsection, subsections, partsOf, rowCount}
 use Rattle.format.specs.declared.Answer.{Answer}
 use Rattle.format.specs.declared.Answer.the-variants.{Accepted, Refused}
 use Rattle.format.proofs.Finding.{every-kind}
-use Rattle.format.proofs.Tests.{need-passed, then-found}
-use Rattle.format.proofs.Turns.{subsectionsFrom, subs-from, subs-none}
+use Rattle.format.proofs.Slots.{end-le}
+use Rattle.format.proofs.Tests.{refused-not, found-inj, needed, need-passed, followed, then-found, tests-passed}
+use Rattle.format.proofs.Turns.{sub-step, subsectionsFrom, subs-from, subs-none, section-step}
 use Rattle.sections.specs.Refusals.{firstRefusal, headChecks, sectionRows}
 use Rattle.sections.proofs.Laws.{numbered, room-case}
-use Rattle.sections.proofs.Subs.{RefusedAs, refused-same, refused-told, stops, leads, at-here}
+use Rattle.sections.proofs.Subs.{RefusedAs, refused-same, refused-told, stops, leads, at-here, length-last}
 
 -- Every test of a section has a number.
 section-numbered : (x : Bool) (k : Kind) (seen repeated : Bool) (r : List ℕ) → numbered (sectionChecks x k seen repeated r) ≡ true
@@ -113,3 +114,64 @@ plain-rest full x k p r e a b =
     required : sameKind rule k ≡ false → sameKind information k ≡ false → hasRequired (record { head = partIn k r; subs = [] }) ≡ true
     required q w =
         ap₂ (λ (u v : Bool). (not (u && eqb (number (getD (partIn k r .fields) 1 [])) 1) || false) && (not v || false)) q w
+
+-- ---- how many rows
+
+-- Subsections that tile n bytes are no more than n.
+subs-few : (d : ℕ) (x : Bool) (o : Kind) (before : List Part) (at n : ℕ) (r : List ℕ) (us : List Part)
+    → subsections d x o before at n r ≡ found us → length us ≤ length before + n
+unfolding subsections
+subs-few zero x o before at n r us e = absurd (refused-not e)
+subs-few (suc d) x o before at zero r us e = let l = ap length (found-inj e) in omega arith
+subs-few (suc d) x o before at (suc m) r us e =
+    let f = followed (subsection x o before at (suc m) r) _ us e in
+    let s = sub-step x o before at (suc m) r (f .0) (f .1) in
+    let i = subs-few d x o (before ++ f .0 ∷ []) (at + stated r) (suc m - stated r) (drop (stated r) r) us (f .2) in
+    let l = length-last before (f .0) in
+    let lo = s .0 in
+    let hi = s .1 in
+    omega arith
+
+-- A section that is found makes no more rows than it states bytes.
+rest-few : (full x : Bool) (k : Kind) (at : ℕ) (r : List ℕ) (t : Section) → sectionRest full x k at r ≡ found t → 4 ≤ stated r
+    → sectionRows t ≤ stated r
+unfolding sectionRest closed
+rest-few full x k at r t e h =
+    let f = followed _ _ t e in
+    let a = needed _ _ _ t (f .2) in
+    let b = needed _ _ _ t (a .1) in
+    let i = subs-few (suc (stated r)) x k [] (at + madeLength k r) (stated r - madeLength k r) (drop (madeLength k r) r) (f .0) (f .1) in
+    let l = ap sectionRows (found-inj (b .1)) in
+    let m = made-some k r in
+    omega arith
+  where
+    made-some : (j : Kind) (q : List ℕ) → 1 ≤ madeLength j q
+    made-some j q =
+        let g = end-le (body j) [] q (frameLength j) in
+        let w = leb-true 1 (frameLength j) (every-kind (λ i. leb 1 (frameLength i)) refl j) in
+        omega arith
+
+pub section-few : (full x : Bool) (before : List Section) (at : ℕ) (r : List ℕ) (t : Section) → section full x before at r ≡ found t
+    → sectionRows t ≤ stated r
+unfolding section
+section-few full x before at r t e = go (sectionKind (idOf r)) (needed _ _ _ t e .1)
+  where
+    go : (m : Option Kind)
+        → elim m as (λ k. Outcome Section) [
+          | none ↦ refused (fault 7 at 0)
+          | some k ↦ tested at (sectionChecks x k (kindBefore k before) (ruleBefore (partIn k r) before) r) (sectionRest full x k at r)
+        ] ≡ found t
+        → sectionRows t ≤ stated r
+    go none w = absurd (refused-not w)
+    go (some k) w =
+        let p = tests-passed at (sectionChecks x k (kindBefore k before) (ruleBefore (partIn k r) before) r) _ t w .1 in
+        rest-few full x k at r t p (section-step full x before at r t e .0)
+
+-- One section more makes as many rows more.
+pub rows-last : (ss : List Section) (t : Section) → rowCount (ss ++ t ∷ []) ≡ rowCount ss + sectionRows t
+rows-last [] t = simp length-append (omega arith)
+rows-last (s ∷ ss) t =
+    let i = rows-last ss t in
+    let a = length-append (s .subs) (partsOf (ss ++ t ∷ [])) in
+    let b = length-append (s .subs) (partsOf ss) in
+    omega arith

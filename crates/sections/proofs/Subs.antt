@@ -43,6 +43,17 @@ refused-then next r = record { why = r .why; same = ap (λ y. andThen y next) (r
 pub refused-same : {A : Type 0} {o p : Outcome A} {n at : ℕ} → o ≡ p → RefusedAs p n at → RefusedAs o n at
 refused-same e r = record { why = r .why; same = e ∙ r .same; number = r .number; stands = r .stands }
 
+-- An answer says that its outcome is a refusal, or what was found.
+pub told-refused : {A : Type 0} (f : A → ℕ) (o : Outcome A) {n at : ℕ} → Refused n at ≡ told f o → RefusedAs o n at
+unfolding told
+told-refused f (refused w) e = record { why = w; same = refl; number = cc; stands = cc }
+told-refused f (found a) e = absurd (let z : _≡_ {A = ℕ} 0 1 = cc in omega arith)
+
+pub told-found : {A : Type 0} (f : A → ℕ) (o : Outcome A) {n : ℕ} → Accepted n ≡ told f o → (a : A) × (o ≡ found a) × (n ≡ f a)
+unfolding told
+told-found f (refused w) e = absurd (let z : _≡_ {A = ℕ} 0 1 = cc in omega arith)
+told-found f (found a) e = (a, refl, cc)
+
 -- The tests of a list stop at the first that fails.
 stop-test : {A : Type 0} (b : Bool) (n at f m : ℕ) (rest : Outcome A) → ((m ≡ 0 → ⊥) → RefusedAs rest m at)
     → (_≡_ {A = ℕ} (elim b [ true ↦ m | false ↦ n ]) 0 → ⊥)
