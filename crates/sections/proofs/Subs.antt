@@ -210,7 +210,8 @@ or-none : (b : Bool) → (b || false) ≡ (false || b)
 or-none true = refl
 or-none false = refl
 
-or-assoc : (a b c : Bool) → (a || (b || c)) ≡ ((a || b) || c)
+-- A row of tests of which one passes, in either grouping.
+pub or-assoc : (a b c : Bool) → (a || (b || c)) ≡ ((a || b) || c)
 or-assoc true b c = refl
 or-assoc false b c = refl
 
