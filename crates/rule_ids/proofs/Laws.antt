@@ -14,11 +14,13 @@ use Rattle.rule_ids.specs.Keys.{among, hashOf, Below, Kept, Room, Put}
 
 -- ---- tests and numbers
 
+-- Three tests of which one passes, in another order.
 or-swap : (a b c : Bool) → (a || (b || c)) ≡ (b || (a || c))
 or-swap true true c = refl
 or-swap true false c = refl
 or-swap false b c = refl
 
+-- A test beside one that passes.
 or-true : (b : Bool) → (b || true) ≡ true
 or-true true = refl
 or-true false = refl
@@ -169,6 +171,7 @@ module _ (l : List ℕ) (k : ℕ) where
   pub fresh-at : {l₀ : List ℕ} {i : ℕ} → l ≡ l₀ → 0 < k → Room l → Looked l k i → getD l i 0 ≡ 0 → Put l₀ k false (set l i k)
   fresh-at {i = i} e h r s z = subst (λ (x : List ℕ). Put x k false (set l i k)) e (fresh h r s z)
 
+  -- The same where k stands.
   pub seen-at : {l₀ : List ℕ} {i : ℕ} → l ≡ l₀ → Room l → Looked l k i → getD l i 0 ≡ k → Put l₀ k true l
   seen-at e r s z = subst (λ (x : List ℕ). Put x k true l) e (seen r s z)
 
@@ -187,6 +190,7 @@ unfolding among
 none-among zero x h = refl
 none-among (suc n) x h = rw (ne-eqb 0 x (λ e. omega arith)) (none-among n x h)
 
+-- It keeps its rule.
 pub none-kept : Kept (replicate 704 0)
 none-kept =
     record {
@@ -195,5 +199,6 @@ none-kept =
       probed = λ i j nz. absurd (nz (none-at 704 i));
     }
 
+-- Nothing stands behind any place.
 pub none-below : (m : ℕ) → Below m (replicate 704 0)
 none-below m i nz = absurd (nz (none-at 704 i))

@@ -21,6 +21,7 @@ use Rattle.rules.proofs.Places.{here-one, standing-none}
 
 -- ---- 0005 against 0003
 
+-- A test behind which nothing is asked.
 and-true : (b : Bool) → (b && true) ≡ b
 and-true true = refl
 and-true false = refl
@@ -59,10 +60,11 @@ pub rule-required : (r : List ℕ) (us : List Part) → hasRequired (ruleOf r us
 rule-required r us = and-true (not (eqb (number (bytesAt r 12 4)) 1) || has exportParameters us)
 
 module _ (r : List ℕ) (us : List Part) (full : Bool) where
-  -- Nothing in a draft; in a token an export rule has a 0003.
+  -- Of a draft nothing is required.
   pub required-free : full ≡ false → true ≡ (not full || hasRequired (ruleOf r us))
   required-free e = rw e
 
+  -- A rule with a 0003 has all that is required.
   pub required-there : has exportParameters us ≡ true → true ≡ (not full || hasRequired (ruleOf r us))
   required-there e =
       sym
@@ -70,6 +72,7 @@ module _ (r : List ℕ) (us : List Part) (full : Bool) where
       (rule-required r us ∙ ap (λ (b : Bool). not (eqb (number (bytesAt r 12 4)) 1) || b) e ∙ or-true (not (eqb (number (bytesAt r 12 4)) 1)))
       ∙ or-true (not full))
 
+  -- Without one, it must be no export rule.
   pub required-told : {v : ℕ} → full ≡ true → has exportParameters us ≡ false → v ≡ number (bytesAt r 12 4)
       → not (eqb v 1) ≡ (not full || hasRequired (ruleOf r us))
   required-told {v} f e l =
@@ -94,7 +97,7 @@ module _ {s : List ℕ} {p e q n : ℕ} {places : List ℕ} (full x : Bool) (w :
       ∙ then-found _
       (sym (w .same x) ∙ ap (λ (a : ℕ). subsectionsFrom x rule (w .done) q a (drop q s)) zero ∙ subs-none x rule (w .done) q (drop q s))
 
-  -- The rule is refused with 18 at its 0005, or with 20, or accepted with its rows.
+  -- The rule is refused with 18 at its 0005 where the mask is too short.
   pub ends-masked : maskCovers (w .done) ≡ false → Refused 18 (getD places 5 0) ≡ told sectionRows (sectionRest full x rule p (drop p s))
   unfolding told need
   ends-masked b =
@@ -102,11 +105,13 @@ module _ {s : List ℕ} {p e q n : ℕ} {places : List ℕ} (full x : Bool) (w :
       let stands : placeOf tokenParameters (p + 20) (w .done) ≡ getD places 5 0 = o .stands ∙ here-one (getD places 5 0) q (mask-stands s (w .done) (getD places 5 0) (o .parts) b) in
       ap (λ (i : ℕ). Refused 18 i) (sym stands) ∙ sym (ap (told sectionRows) rule-end ∙ rw b)
 
+  -- It is refused with 20 where the 0003 is missing that it requires.
   pub ends-missing : maskCovers (w .done) ≡ true → (not full || hasRequired (ruleOf (drop p s) (w .done))) ≡ false
       → Refused 20 p ≡ told sectionRows (sectionRest full x rule p (drop p s))
   unfolding told need
   ends-missing a b = sym (ap (told sectionRows) rule-end ∙ rw (a, b))
 
+  -- It is accepted with its rows.
   pub ends-there : maskCovers (w .done) ≡ true → (not full || hasRequired (ruleOf (drop p s) (w .done))) ≡ true
       → Accepted n ≡ told sectionRows (sectionRest full x rule p (drop p s))
   unfolding told need

@@ -19,18 +19,21 @@ use Rattle.format.proofs.Grouping.{all-join}
 use Rattle.rule_ids.specs.Keys.{Room, Put}
 use Rattle.rule_ids.proofs.Laws.{same-or, none-kept, none-below, none-among}
 use Rattle.sections.proofs.Laws.{zero-number}
+use Rattle.sections.proofs.Subs.{or-assoc}
+use Rattle.sections.proofs.InformationLaws.{or-false}
 use Rattle.rules.specs.Ids.{firstField, isRule, keyBefore, EightBytes, Held}
 use Rattle.rules.proofs.Places.{some-place}
 
 -- ---- the number of a Rule ID
 
--- The number of a Rule ID is not 0: its first byte is a character.
+-- The first byte of a Rule ID is a character, so not 0.
 first-some : (b : ℕ) (bs : List ℕ) → padded inRuleId (b ∷ bs) ≡ true → b ≡ 0 → ⊥
 first-some b bs e z =
     let f : padded inRuleId (0 ∷ bs) ≡ true = ap (λ (i : ℕ). padded inRuleId (i ∷ bs)) (sym z) ∙ e in
     let n : _≡_ {A = ℕ} 0 1 = cc in
     omega arith
 
+-- So the number is not.
 pub id-some : (bs : List ℕ) → ruleIdForm bs ≡ true → 0 < number bs
 unfolding ruleIdForm allZero
 id-some [] e = absurd (let z : _≡_ {A = ℕ} 0 1 = cc in omega arith)
@@ -50,6 +53,7 @@ same-list (c ∷ a) (d ∷ b) e =
     let s = and-split (eqb c d) (sameBytes a b) e in
     ap₂ (λ (i : ℕ) (l : List ℕ). i ∷ l) (eqb-true c d (s .0)) (same-list a b (s .1))
 
+-- A list is the same bytes as itself.
 same-self : (a : List ℕ) → sameBytes a a ≡ true
 unfolding sameBytes
 same-self [] = refl
@@ -83,20 +87,17 @@ rule-key p (s ∷ ss) e h = ap₂ (λ (a b : Bool). a || b) (go (isRule s) (h .0
     go true k = same-number (getD (p .fields) 0 []) (firstField s) e (k refl)
     go false k = refl
 
--- One section more.
+-- Two tests of which one passes, in either order.
 or-swap : (a b : Bool) → (a || b) ≡ (b || a)
 or-swap true true = refl
 or-swap true false = refl
 or-swap false true = refl
 or-swap false false = refl
 
-or-assoc : (a b c : Bool) → (a || (b || c)) ≡ ((a || b) || c)
-or-assoc true b c = refl
-or-assoc false b c = refl
-
+-- One section more.
 key-last : (key : ℕ) (ss : List Section) (s : Section)
     → keyBefore key (ss ++ s ∷ []) ≡ (keyBefore key ss || (isRule s && eqb (number (firstField s)) key))
-key-last key [] s = or-swap (isRule s && eqb (number (firstField s)) key) false
+key-last key [] s = or-false (isRule s && eqb (number (firstField s)) key)
 key-last key (t ∷ ss) s =
     ap (λ (b : Bool). (isRule t && eqb (number (firstField t)) key) || b) (key-last key ss s)
     ∙ or-assoc (isRule t && eqb (number (firstField t)) key) (keyBefore key ss) (isRule s && eqb (number (firstField s)) key)
@@ -124,7 +125,7 @@ held-skip {before} s h grows e =
       eight = all-join _ before (s ∷ []) (h .eight) ((λ y. absurd (let z : _≡_ {A = ℕ} 0 1 = cc in omega arith)), tt);
       holds = λ key pos.
           h .holds key pos
-          ∙ sym (key-last key before s ∙ ap (λ (b : Bool). keyBefore key before || (b && eqb (number (firstField s)) key)) e ∙ or-swap (keyBefore key before) false);
+          ∙ sym (key-last key before s ∙ ap (λ (b : Bool). keyBefore key before || (b && eqb (number (firstField s)) key)) e ∙ or-false (keyBefore key before));
     }
 
 -- A rule of at least 20 bytes is put into it.

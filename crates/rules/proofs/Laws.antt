@@ -47,9 +47,11 @@ label-other f h k = rw (ne-eqb (length f) 0 h, ne-eqb (length f) 64 k)
 -- ---- control vectors and masks
 
 module _ (f : List ℕ) (n : ℕ) (l : length f ≡ n) where
+  -- One of the three lengths.
   pub control-yes : (n ≡ 0) ⊎ ((n ≡ 8) ⊎ (n ≡ 16)) → true ≡ controlLength f
   control-yes = ⊎-elim (λ e. rw (l, e)) (⊎-elim (λ e. rw (l, e)) (λ e. rw (l, e)))
 
+  -- Another.
   pub control-not : ((n ≡ 0) ⊎ ((n ≡ 8) ⊎ (n ≡ 16)) → ⊥) → false ≡ controlLength f
   control-not h = rw (l, ne-eqb n 0 (λ e. h (inl e)), ne-eqb n 8 (λ e. h (inr (inl e))), ne-eqb n 16 (λ e. h (inr (inr e))))
 

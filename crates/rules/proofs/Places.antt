@@ -15,12 +15,13 @@ use Rattle.rules.specs.Loops.{standing, orHere, Within, Once}
 
 -- ---- one part more
 
--- The parts of a kind in a list with one part more, where that is of another kind or of this one.
+-- The parts of a kind in a list with one part more, where that is of another kind.
 kind-other : (k : Kind) (us : List Part) (u : Part) → sameKind k (u .kind) ≡ false → ofKind k (us ++ u ∷ []) ≡ ofKind k us
 kind-other k [] u e = ap (λ (b : Bool). elim b as (λ y. List Part) [ true ↦ u ∷ [] | false ↦ [] ]) e
 kind-other k (v ∷ us) u e =
     ap (λ (l : List Part). elim (sameKind k (v .kind)) as (λ y. List Part) [ true ↦ v ∷ l | false ↦ l ]) (kind-other k us u e)
 
+-- Where it is of this kind and the first, it is the only one.
 kind-same : (k : Kind) (us : List Part) (u : Part) → sameKind k (u .kind) ≡ true → ofKind k us ≡ [] → ofKind k (us ++ u ∷ []) ≡ u ∷ []
 kind-same k [] u e h = ap (λ (b : Bool). elim b as (λ y. List Part) [ true ↦ u ∷ [] | false ↦ [] ]) e
 kind-same k (v ∷ us) u e h = go (sameKind k (v .kind)) h (λ q. kind-same k us u e q)
@@ -85,11 +86,12 @@ pub place-small : (s : List ℕ) (k : Kind) (i : ℕ) → Within s k i → i ≤
 place-small s k zero h = omega arith
 place-small s k (suc i) h = let b = h (omega arith) in omega arith
 
--- The part at a place, and none where it is 0.
+-- Where the place is 0, there is no part.
 pub standing-none : (s : List ℕ) (k : Kind) {i : ℕ} → i ≡ 0 → standing s k i ≡ []
 unfolding standing
 standing-none s k e = rw e
 
+-- Where the place is not 0, the part there.
 pub standing-one : (s : List ℕ) (k : Kind) (i : ℕ) → 0 < i → standing s k i ≡ partIn k (drop i s) ∷ []
 unfolding standing
 standing-one s k zero h = absurd (omega arith)
@@ -101,16 +103,18 @@ unfolding orHere
 here-one zero q h = absurd (omega arith)
 here-one (suc i) q h = refl
 
--- A kind stands among the parts where its place is not 0.
+-- A place above 0 is not 0, as the code tests it.
 not-none : (i : ℕ) → not (eqb (suc i) 0) ≡ true
 not-none i = ap not (ne-eqb (suc i) 0 (λ e. omega arith))
 
+-- Parts of a kind stand at a place exactly where it is not 0.
 standing-told : (s : List ℕ) (k : Kind) (i : ℕ)
     → elim (standing s k i) as (λ y. Bool) [ [] ↦ false | v ∷ vs ↦ true ] ≡ not (eqb i 0)
 unfolding standing
 standing-told s k zero = refl
 standing-told s k (suc i) = sym (not-none i)
 
+-- A kind that stands at most once is among the parts exactly where its place is not 0.
 pub once-has : {s : List ℕ} {first q : ℕ} {us : List Part} {k : Kind} {i : ℕ} → Once s first q us k i → has k us ≡ not (eqb i 0)
 once-has {s} {us = us} {k = k} {i = i} o =
     has-of k us
@@ -122,7 +126,7 @@ pub once-none : (s : List ℕ) (first : ℕ) (k : Kind) → Once s first first [
 unfolding standing orHere
 once-none s first k = record { parts = refl; stands = refl; within = λ h. absurd (omega arith) }
 
--- A part of another kind behind the earlier ones.
+-- Behind a part of another kind, the place of this kind or the end.
 other-place : {s : List ℕ} {first q : ℕ} {us : List Part} {k : Kind} (i : ℕ) (u : Part) (t : ℕ) → Once s first q us k i
     → sameKind k (u .kind) ≡ false → size u ≡ t → placeOf k first (us ++ u ∷ []) ≡ orHere i (q + t)
 unfolding orHere
@@ -132,6 +136,7 @@ other-place {first = first} {q = q} {us = us} {k = k} zero u t o e l =
     ∙ ap₂ (λ (a b : ℕ). a + b) (o .stands) l
 other-place {first = first} {us = us} {k = k} (suc i) u t o e l = place-kept k first us u (once-has o ∙ not-none i) ∙ o .stands
 
+-- Behind a part of another kind, this kind stands where it stood.
 pub once-other : {s : List ℕ} {first q : ℕ} {us : List Part} {k : Kind} {i : ℕ} (u : Part) {t : ℕ} → Once s first q us k i
     → sameKind k (u .kind) ≡ false → size u ≡ t → Once s first (q + t) (us ++ u ∷ []) k i
 once-other {us = us} {k = k} {i = i} u {t = t} o e l =

@@ -121,9 +121,11 @@ module _ {s : List ℕ} {p e q n : ℕ} {places : List ℕ} (w : RuleRead s p e 
   read : FoundAs false rule (w .done) q (e - q) (drop q s)
   read = sub-finds false rule (w .done) q (e - q) (drop q s) (f false) z
 
+  -- The tag tells it.
   told : subsectionKind rule g ≡ some (read .kind)
   told = ap (subsectionKind rule) (l₂ ∙ sym (at-here s q 2)) ∙ read .told
 
+  -- Its tag is the tag that was read.
   tag-told : tag (read .kind) ≡ g
   tag-told = subsectionKind-sound rule g (read .kind) told .2
 
@@ -135,11 +137,13 @@ module _ {s : List ℕ} {p e q n : ℕ} {places : List ℕ} (w : RuleRead s p e 
   room : (4 ≤ t) × (t ≤ e - q)
   room = let r = loop-room s false rule (w .done) q e h (f false) z in (omega (arith, r .0), omega (arith, r .1))
 
+  -- It is the first of its kind, and its counts make the bytes that it states.
   new : (has (read .kind) (w .done) ≡ false) × (madeLength (read .kind) (drop q s) ≡ t)
   new =
       let a = sub-new false rule (read .kind) (w .done) q (e - q) (drop q s) (read .told) (read .same) in
       (a .0, a .1 ∙ ap number (at-drop s q 2 2) ∙ sym l)
 
+  -- So it is as long.
   long : size (partIn (read .kind) (drop q s)) ≡ t
   long =
       let d = length-drop q s in

@@ -113,11 +113,13 @@ module _ (full x : Bool) (before : List Section) (s : List ℕ) (p : ℕ) (four 
 -- ---- a rule without subsections
 
 module _ (full x : Bool) (s : List ℕ) (p : ℕ) (l : p + 20 ≡ p + stated (drop p s)) where
+  -- It is accepted, with its own row.
   pub bare-there : (not full || hasRequired (ruleOf (drop p s) [])) ≡ true
       → Accepted 1 ≡ told sectionRows (sectionRest full x rule p (drop p s))
   unfolding rule-start
   bare-there b = ends-there full x (rule-start s p (p + 20) (omega arith)) (omega arith) (omega arith) l refl b
 
+  -- It is refused with 20 where it requires a 0003.
   pub bare-missing : (not full || hasRequired (ruleOf (drop p s) [])) ≡ false
       → Refused 20 p ≡ told sectionRows (sectionRest full x rule p (drop p s))
   unfolding rule-start
