@@ -63,7 +63,8 @@ fn put_row(line: &mut [u8], place: u32, row: Row) -> usize
 
 // A line that is made already, at the start of a lent buffer.
 fn place_line(out: &mut [u8], line: &[u8]) -> LineAnswer
-    ensures { λ r. ⌜ (r ≡ lineAnswer (now (line .entry)) (now (out .entry))) × (now (out .exit) ≡ lineIn (now (line .entry)) (now (out .entry))) ⌝ }
+    ensures answer { λ r. ⌜ r ≡ lineAnswer (now (line .entry)) (now (out .entry)) ⌝ }
+    ensures buffer { λ _. ⌜ now (out .exit) ≡ lineIn (now (line .entry)) (now (out .entry)) ⌝ }
 {
     if out.len() < line.len() {
         return LineAnswer::TooSmall;
@@ -73,7 +74,8 @@ fn place_line(out: &mut [u8], line: &[u8]) -> LineAnswer
 
 // The first line of a listing, from the token's id, its length and the reading's answer.
 pub fn first_line(out: &mut [u8], id: u8, length: u32, answer: Answer) -> LineAnswer
-    ensures { λ r. ⌜ (r ≡ lineAnswer (firstLine id length answer) (now (out .entry))) × (now (out .exit) ≡ lineIn (firstLine id length answer) (now (out .entry))) ⌝ }
+    ensures answer { λ r. ⌜ r ≡ lineAnswer (firstLine id length answer) (now (out .entry)) ⌝ }
+    ensures buffer { λ _. ⌜ now (out .exit) ≡ lineIn (firstLine id length answer) (now (out .entry)) ⌝ }
 {
     let mut line = [0u8; LINE];
     let n = put_first(&mut line, id, length, answer);
@@ -82,7 +84,8 @@ pub fn first_line(out: &mut [u8], id: u8, length: u32, answer: Answer) -> LineAn
 
 // The line of a row, from its place in the table and its numbers.
 pub fn row_line(out: &mut [u8], place: u32, row: Row) -> LineAnswer
-    ensures { λ r. ⌜ (r ≡ lineAnswer (rowLine place row) (now (out .entry))) × (now (out .exit) ≡ lineIn (rowLine place row) (now (out .entry))) ⌝ }
+    ensures answer { λ r. ⌜ r ≡ lineAnswer (rowLine place row) (now (out .entry)) ⌝ }
+    ensures buffer { λ _. ⌜ now (out .exit) ≡ lineIn (rowLine place row) (now (out .entry)) ⌝ }
 {
     let mut line = [0u8; LINE];
     let n = put_row(&mut line, place, row);

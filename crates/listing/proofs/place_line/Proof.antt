@@ -18,7 +18,11 @@ same-length : tie.Need-same-length
 same-length c = search needs
 
 returns-2 : tie.Need-returns-2
-returns-2 c = line-placed (c .before .before .before .before .before .before .before .args .line .now) (c .before .before .before .before .before .before .before .args .out .now) _ (c .before .before .put-text .result) (c .before .before .before .before .if1 .left) (c .before .before .put-text .ensures)
+returns-2 c =
+    let b = c .before .before .before .before in
+    let a = b .before .before .before .args in
+    line-placed (a .line .now) (a .out .now) _ (c .before .before .put-text .result) (b .if1 .left)
+    (c .before .before .put-text .ensures)
 
 pub place-line-spec : {M : Type 1} → statement M
 place-line-spec = tie.close (tie.spec returns put-text-requires same-length returns-2)

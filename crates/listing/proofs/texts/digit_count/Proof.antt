@@ -16,7 +16,8 @@ abbrev μ-loop : tie.MeasureT-loop
 μ-loop n base rest₀ k₀ rest k = rest
 
 loop-holds : tie.Need-loop-holds Inv-loop μ-loop
-loop-holds c = (count-ten (c .args .base) (c .args .n) (search needs) (search needs), omega arith)
+loop-holds c =
+    (count-ten (c .args .base) (c .args .n) (search needs) (search needs), omega arith)
 
 div-rest : tie.Need-div-rest Inv-loop μ-loop
 div-rest c = search needs
@@ -28,10 +29,14 @@ loop-less : tie.Need-loop-less Inv-loop μ-loop
 loop-less c = div-lt-self (omega arith) (omega arith)
 
 loop-again : tie.Need-loop-again Inv-loop μ-loop
-loop-again c = (c .before .loop .inv .0, omega (arith, count-more (c .before .before .args .base) (c .before .loop .rest) (omega arith) (c .loop-test .taken)))
+loop-again c =
+    let l = c .before .loop in
+    (l .inv .0, omega (arith, count-more (c .before .before .args .base) (l .rest) (omega arith) (c .loop-test .taken)))
 
 returns : tie.Need-returns Inv-loop μ-loop
-returns c = let r = count-one (c .before .before .args .base) (c .before .loop .rest) (c .loop-test .left) in (omega arith, omega arith)
+returns c =
+    let r = count-one (c .before .before .args .base) (c .before .loop .rest) (c .loop-test .left) in
+    (omega arith, omega arith)
 
 pub digit-count-spec : {M : Type 1} → statement M
 digit-count-spec =

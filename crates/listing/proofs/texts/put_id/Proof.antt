@@ -31,23 +31,26 @@ same-length : tie.Need-same-length
 same-length c = search needs
 
 returns : tie.Need-returns
-returns c = (stored-as (sym (ap (λ (i : ℕ). idText i ++ (32 ∷ [])) (c .before .before .before .before .before .match .keys1))) (c .before .before .put-text .ensures), search needs)
+returns c =
+    let m = c .before .before .before .before .before .match in
+    (stored-as (sym (ap (λ (i : ℕ). idText i ++ (32 ∷ [])) (m .keys1))) (c .before .before .put-text .ensures), search needs)
 
 same-length-2 : tie.Need-same-length-2
 same-length-2 c = search needs
 
 returns-2 : tie.Need-returns-2
-returns-2 c = (stored-as (sym (ap (λ (i : ℕ). idText i ++ (32 ∷ [])) (c .before .before .before .before .before .match .keys2))) (c .before .before .put-text2 .ensures), search needs)
+returns-2 c =
+    let m = c .before .before .before .before .before .match in
+    (stored-as (sym (ap (λ (i : ℕ). idText i ++ (32 ∷ [])) (m .keys2))) (c .before .before .put-text2 .ensures), search needs)
 
 same-length-3 : tie.Need-same-length-3
 same-length-3 c = search needs
 
 returns-3 : tie.Need-returns-3
 returns-3 c =
-    let r = c .before .before .before .before .before .match .rest in (
-      stored-as (sym (ap (λ (l : List ℕ). l ++ (32 ∷ [])) (id-unknown (c .before .before .before .before .before .before .before .args .id) (r .0 .1) (r .1)))) (c .before .before .put-text3 .ensures),
-      search needs,
-    )
+    let m = c .before .before .before .before .before in
+    let e = id-unknown (m .before .before .args .id) (m .match .rest .0 .1) (m .match .rest .1) in
+    (stored-as (sym (ap (λ (l : List ℕ). l ++ (32 ∷ [])) e)) (c .before .before .put-text3 .ensures), search needs)
 
 pub put-id-spec : {M : Type 1} → statement M
 put-id-spec =

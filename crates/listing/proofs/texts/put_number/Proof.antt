@@ -54,7 +54,16 @@ loop-less : tie.Need-loop-less Inv-loop μ-loop
 loop-less c = search needs
 
 loop-again : tie.Need-loop-again Inv-loop μ-loop
-loop-again c = (search needs, search needs, simp length-set (c .before .before .loop .inv .2), digit-turn (c .before .before .loop .line) (c .before .before .before .before .before .args .at) (c .before .before .loop .k) (c .before .before .before .before .before .args .base) (c .before .before .loop .rest) (c .digit-text .result) (c .before .loop-test .taken) (c .digit-text .ensures) ∙ c .before .before .loop .inv .3)
+loop-again c =
+    let l = c .before .before .loop in
+    let a = c .before .before .before .before .before .args in (
+      search needs,
+      search needs,
+      simp length-set (l .inv .2),
+      digit-turn (l .line) (a .at) (l .k) (a .base) (l .rest) (c .digit-text .result) (c .before .loop-test .taken)
+          (c .digit-text .ensures)
+          ∙ l .inv .3,
+    )
 
 slice-write-line-2 : tie.Need-slice-write-line-2 Inv-loop μ-loop
 slice-write-line-2 c = search needs

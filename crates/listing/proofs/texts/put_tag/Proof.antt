@@ -19,7 +19,9 @@ same-length : tie.Need-same-length
 same-length c = search needs
 
 returns : tie.Need-returns
-returns c = (stored-as (sym (ap (λ (g : ℕ). tagText g ++ (32 ∷ [])) (c .before .before .before .before .before .if1 .taken))) (c .before .before .put-text .ensures), search needs)
+returns c =
+    let e = c .before .before .before .before .before .if1 .taken in
+    (stored-as (sym (ap (λ (g : ℕ). tagText g ++ (32 ∷ [])) e)) (c .before .before .put-text .ensures), search needs)
 
 put-number-requires : tie.Need-put-number-requires
 put-number-requires c κs = search needs
@@ -28,7 +30,10 @@ same-length-2 : tie.Need-same-length-2
 same-length-2 c = search needs
 
 returns-2 : tie.Need-returns-2
-returns-2 c = (stored-as (sym (ap (λ (l : List ℕ). l ++ (32 ∷ [])) (tag-is (c .before .before .before .before .before .before .args .tag) (c .before .before .before .before .if1 .left)))) (c .before .before .put-number .ensures .0), search needs)
+returns-2 c =
+    let b = c .before .before .before .before in
+    let e = tag-is (b .before .before .args .tag) (b .if1 .left) in
+    (stored-as (sym (ap (λ (l : List ℕ). l ++ (32 ∷ [])) e)) (c .before .before .put-number .ensures .0), search needs)
 
 pub put-tag-spec : {M : Type 1} → statement M
 put-tag-spec =

@@ -35,7 +35,13 @@ loop-less : tie.Need-loop-less Inv-loop μ-loop
 loop-less c = search needs
 
 loop-again : tie.Need-loop-again Inv-loop μ-loop
-loop-again c = (search needs, simp length-set (c .before .before .loop .inv .1), text-turn (c .before .before .loop .line) (c .before .before .before .args .text .now) (c .before .before .before .args .at) (c .before .before .loop .i) (c .before .loop-test .taken) ∙ c .before .before .loop .inv .2)
+loop-again c =
+    let l = c .before .before .loop in
+    let a = c .before .before .before .args in (
+      search needs,
+      simp length-set (l .inv .1),
+      text-turn (l .line) (a .text .now) (a .at) (l .i) (c .before .loop-test .taken) ∙ l .inv .2,
+    )
 
 add-result : tie.Need-add-result Inv-loop μ-loop
 add-result c = search needs
