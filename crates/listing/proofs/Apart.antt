@@ -53,14 +53,16 @@ rows-apart m n r t h =
     = numeral-same 16 2 (r .kind / 65536) (t .kind / 65536) (omega arith) (omega arith) (e .1) in
     let g : r .kind % 65536 ≡ t .kind % 65536 = tag-same (r .kind % 65536) (t .kind % 65536) (e .2) in (
       decimal-same m n (e .0),
-      row-same r t (omega arith) (decimal-same (r .offset) (t .offset) (e .3)) (decimal-same (r .length) (t .length) (e .4))
+      row-same r t (omega arith) (decimal-same (r .offset) (t .offset) (e .3))
+          (decimal-same (r .length) (t .length) (e .4))
           (decimal-same (r .owner) (t .owner) (e .5)),
     )
 
 -- ---- first lines
 
 accepted-solid : (i n rows : ℕ) → All Solid (acceptedColumns i n rows)
-accepted-solid i n rows = (omega arith, (id-solid i, (decimal-solid n, (omega arith, (decimal-solid rows, (omega arith, tt))))))
+accepted-solid i n rows =
+    (omega arith, (id-solid i, (decimal-solid n, (omega arith, (decimal-solid rows, (omega arith, tt))))))
 
 refused-solid : (number place : ℕ) → All Solid (refusedColumns number place)
 refused-solid number place = (omega arith, (decimal-solid number, (omega arith, (decimal-solid place, tt))))

@@ -34,18 +34,19 @@ line-cut old line new n s h =
     ap (take n) (s .bytes ∙ sets-front old line (omega arith)) ∙ take-at line (drop (length line) old) n e
 
 -- the buffer has no room for the line, or it has
-pub no-room : (line old : List ℕ) → length old < length line → (lineAnswer line old ≡ TooSmall) × (lineIn line old ≡ old)
+pub no-room : (line old : List ℕ) → length old < length line
+    → (lineAnswer line old ≡ TooSmall) × (lineIn line old ≡ old)
 unfolding lineAnswer lineIn
 no-room line old h =
     let e : leb (length line) (length old) ≡ false = lt-leb (length line) (length old) h in
-    (second-of _ (Length (length line)) TooSmall e, second-of _ (line ++ drop (length line) old) old e)
+    (second-of _ _ _ e, second-of _ _ _ e)
 
 pub room : (line old : List ℕ) → length line ≤ length old
     → (lineAnswer line old ≡ Length (length line)) × (lineIn line old ≡ line ++ drop (length line) old)
 unfolding lineAnswer lineIn
 room line old h =
     let e : leb (length line) (length old) ≡ true = le-leb (length line) (length old) h in
-    (first-of _ (Length (length line)) TooSmall e, first-of _ (line ++ drop (length line) old) old e)
+    (first-of _ _ _ e, first-of _ _ _ e)
 
 -- a line that was stored where there is room for it
 pub line-placed : (line old new : List ℕ) (n : ℕ) → length line ≤ length old → Stored old 0 line new n
@@ -55,7 +56,8 @@ line-placed line old new n h s =
     (ap Length (s .place ∙ zero-add (length line)) ∙ sym (r .0), s .bytes ∙ sets-front old line h ∙ sym (r .1))
 
 -- an answered length is the line's, and it is at most the buffer's
-pub answered : (line old : List ℕ) (n : ℕ) → lineAnswer line old ≡ Length n → (n ≡ length line) × (n ≤ length old)
+pub answered : (line old : List ℕ) (n : ℕ) → lineAnswer line old ≡ Length n
+    → (n ≡ length line) × (n ≤ length old)
 answered line old n e =
     ⊎-elim
     (λ (h : length old < length line).

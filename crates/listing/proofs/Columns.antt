@@ -41,7 +41,7 @@ tag-solid g =
 
 pub id-solid : (i : ℕ) → Solid (idText i)
 id-solid i =
-    either-solid (eqb i 0x1E) (text "external") (elim (eqb i 0x1F) [ true ↦ text "internal" | false ↦ text "unknown" ]) (omega arith)
+    either-solid (eqb i 0x1E) (text "external") _ (omega arith)
     (either-solid (eqb i 0x1F) (text "internal") (text "unknown") (omega arith) (omega arith))
 
 -- ---- cut at the spaces

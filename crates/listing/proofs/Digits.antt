@@ -12,7 +12,8 @@ use Rattle.format.specs.Lines.{digits}
 
 -- a number is below another, or not
 pub below-or-not : (n m : ℕ) → (n < m) ⊎ (m ≤ n)
-below-or-not n m = ⊎-elim (λ (z : m - n ≡ 0). inr (omega arith)) (λ (z : 0 < m - n). inl (omega arith)) (eq-zero-or-pos (m - n))
+below-or-not n m =
+    ⊎-elim (λ (z : m - n ≡ 0). inr (omega arith)) (λ (z : 0 < m - n). inl (omega arith)) (eq-zero-or-pos (m - n))
 
 -- the last w digits of n, zeros in front where n has fewer
 unfoldable pub lastDigits : ℕ → ℕ → ℕ → List ℕ

@@ -39,7 +39,8 @@ id-length i =
 tag-length : (g : ℕ) → g < 2 ^ 32 → length (tagText g) ≤ 10
 tag-length g h =
     either-length 10 (eqb g 0) (text "-") (hexadecimal 4 g) (omega arith)
-    (subst (λ (l : List ℕ). length l ≤ 10) (sym (hexadecimal-is 4 g)) (numeral-ten 16 4 g (omega arith) (omega arith) h))
+    (subst (λ (l : List ℕ). length l ≤ 10) (sym (hexadecimal-is 4 g))
+    (numeral-ten 16 4 g (omega arith) (omega arith) h))
 
 decimal-length : (n : ℕ) → n < 2 ^ 32 → length (numeral 10 1 n) ≤ 10
 decimal-length n h = numeral-ten 10 1 n (omega arith) (omega arith) h
@@ -52,7 +53,8 @@ accepted-length i n rows p q =
 pub refused-length : (i n number place : ℕ) → number < 2 ^ 32 → place < 2 ^ 32
     → length (firstLine i n (Refused number place)) ≤ 96
 refused-length i n number place p q =
-    subst (λ (k : ℕ). k ≤ 96) (sym (ap length (refused-is i n number place) ∙ columns-length (refusedColumns number place)))
+    subst (λ (k : ℕ). k ≤ 96)
+    (sym (ap length (refused-is i n number place) ∙ columns-length (refusedColumns number place)))
     (omega (arith, decimal-length number p, decimal-length place q))
 
 pub row-length : (n : ℕ) (r : Row) → n < 2 ^ 32 → r .kind < 2 ^ 32 → r .offset < 2 ^ 32 → r .length < 2 ^ 32

@@ -26,7 +26,7 @@ pub same-accepted-line : (i j n m rows more : ℕ) → firstLine i n (Accepted r
     → (idText i ≡ idText j) × (n ≡ m) × (rows ≡ more)
 same-accepted-line = accepted-apart
 
--- 96 bytes, which the code calls LINE, are enough for every line of numbers of 32 bits: a row's, an accepted token's and a
+-- 96 bytes, which the code calls LINE, are enough for every line of numbers of 32 bits: a row's, an accepted token's, a
 -- refused token's.
 pub row-line-fits : (n : ℕ) (r : Row) → n < 2 ^ 32 → r .kind < 2 ^ 32 → r .offset < 2 ^ 32 → r .length < 2 ^ 32
     → r .owner < 2 ^ 32 → length (rowLine n r) ≤ 96
@@ -45,5 +45,6 @@ pub line-given : (line old : List ℕ) → length line ≤ length old
 line-given = room
 
 -- A length is answered only where it is the line's and the buffer has room for it.
-pub length-answered : (line old : List ℕ) (n : ℕ) → lineAnswer line old ≡ Length n → (n ≡ length line) × (n ≤ length old)
+pub length-answered : (line old : List ℕ) (n : ℕ) → lineAnswer line old ≡ Length n
+    → (n ≡ length line) × (n ≤ length old)
 length-answered = answered

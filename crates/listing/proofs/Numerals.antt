@@ -34,7 +34,8 @@ count-few b n k two h = digits-few b two (suc n) n k h
 -- in a base of 10 or more, a number of 32 bits has ten digits or fewer
 pub count-ten : (b n : ℕ) → 10 ≤ b → n < 2 ^ 32 → digitCount b n ≤ 10
 count-ten b n ten h =
-    count-few b n 9 (omega arith) (lt-of-lt-of-le (lt-of-lt-of-le h (lit≤ {m = 2 ^ 32} {n = 10 ^ 10} tt)) (pow-le-pow-left ten 10))
+    count-few b n 9 (omega arith)
+    (lt-of-lt-of-le (lt-of-lt-of-le h (lit≤ {m = 2 ^ 32} {n = 10 ^ 10} tt)) (pow-le-pow-left ten 10))
 
 pub count-holds : (b n : ℕ) → 2 ≤ b → n < b ^ digitCount b n
 unfolding digitCount

@@ -17,7 +17,9 @@ put-first-requires : tie.Need-put-first-requires
 put-first-requires c κs = search needs
 
 array-share-prefix-line : tie.Need-array-share-prefix-line
-array-share-prefix-line c = omega (arith, c .before .before .put-first .kept .0, c .before .before .put-first .ensures .1)
+array-share-prefix-line c =
+    let p = c .before .before .put-first in
+    omega (arith, p .kept .0, p .ensures .1)
 
 slice-aggregate-place-line : tie.Need-slice-aggregate-place-line
 slice-aggregate-place-line c =

@@ -17,7 +17,9 @@ put-row-requires : tie.Need-put-row-requires
 put-row-requires c κs = search needs
 
 array-share-prefix-line : tie.Need-array-share-prefix-line
-array-share-prefix-line c = omega (arith, c .before .before .put-row .kept .0, c .before .before .put-row .ensures .1)
+array-share-prefix-line c =
+    let p = c .before .before .put-row in
+    omega (arith, p .kept .0, p .ensures .1)
 
 slice-aggregate-place-line : tie.Need-slice-aggregate-place-line
 slice-aggregate-place-line c =

@@ -31,11 +31,11 @@ loop-less c = div-lt-self (omega arith) (omega arith)
 loop-again : tie.Need-loop-again Inv-loop μ-loop
 loop-again c =
     let l = c .before .loop in
-    (l .inv .0, omega (arith, count-more (c .before .before .args .base) (l .rest) (omega arith) (c .loop-test .taken)))
+    (l .inv .0, omega (arith, count-more (c .before .before .args .base) (l .rest) (omega arith) (omega arith)))
 
 returns : tie.Need-returns Inv-loop μ-loop
 returns c =
-    let r = count-one (c .before .before .args .base) (c .before .loop .rest) (c .loop-test .left) in
+    let r = count-one (c .before .before .args .base) (c .before .loop .rest) (omega arith) in
     (omega arith, omega arith)
 
 pub digit-count-spec : {M : Type 1} → statement M

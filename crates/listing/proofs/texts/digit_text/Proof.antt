@@ -24,10 +24,14 @@ add-result-2 : tie.Need-add-result-2
 add-result-2 c = search needs
 
 returns : tie.Need-returns
-returns c = let d = c .before .args .d in sym (first-of (ltb d 10) (0x30 + d) (0x37 + d) (lt-ltb d 10 (c .if1 .taken)))
+returns c =
+    let d = c .before .args .d in
+    sym (first-of (ltb d 10) (0x30 + d) (0x37 + d) (lt-ltb d 10 (c .if1 .taken)))
 
 returns-2 : tie.Need-returns-2
-returns-2 c = let d = c .before .args .d in sym (second-of (ltb d 10) (0x30 + d) (0x37 + d) (le-ltb d 10 (c .if1 .left)))
+returns-2 c =
+    let d = c .before .args .d in
+    sym (second-of (ltb d 10) (0x30 + d) (0x37 + d) (le-ltb d 10 (c .if1 .left)))
 
 pub digit-text-spec : {M : Type 1} → statement M
 digit-text-spec =

@@ -32,16 +32,20 @@ same-length c = search needs
 
 returns : tie.Need-returns
 returns c =
-    let m = c .before .before .before .before .before .match in
-    (stored-as (sym (ap (λ (i : ℕ). idText i ++ (32 ∷ [])) (m .keys1))) (c .before .before .put-text .ensures), search needs)
+    let m = c .before .before .before .before .before .match in (
+      stored-as (sym (ap (λ (i : ℕ). idText i ++ (32 ∷ [])) (m .keys1))) (c .before .before .put-text .ensures),
+      search needs,
+    )
 
 same-length-2 : tie.Need-same-length-2
 same-length-2 c = search needs
 
 returns-2 : tie.Need-returns-2
 returns-2 c =
-    let m = c .before .before .before .before .before .match in
-    (stored-as (sym (ap (λ (i : ℕ). idText i ++ (32 ∷ [])) (m .keys2))) (c .before .before .put-text2 .ensures), search needs)
+    let m = c .before .before .before .before .before .match in (
+      stored-as (sym (ap (λ (i : ℕ). idText i ++ (32 ∷ [])) (m .keys2))) (c .before .before .put-text2 .ensures),
+      search needs,
+    )
 
 same-length-3 : tie.Need-same-length-3
 same-length-3 c = search needs

@@ -21,7 +21,8 @@ Inv-loop line₀ at n base width end e rest₀ k₀ line rest k =
     (at ≤ k)
     × (k ≤ e)
     × (length line ≡ length line₀)
-    × (sets line at (map digitText (lastDigits (k - at) base rest)) ≡ sets line₀ at (map digitText (lastDigits (e - at) base n)))
+    × (sets line at (map digitText (lastDigits (k - at) base rest))
+    ≡ sets line₀ at (map digitText (lastDigits (e - at) base n)))
 
 abbrev μ-loop : tie.MeasureT-loop
 μ-loop line₀ at n base width end e rest₀ k₀ line rest k = k - at
@@ -42,7 +43,11 @@ rem-digit-text : tie.Need-rem-digit-text Inv-loop μ-loop
 rem-digit-text c = search needs
 
 digit-text-requires : tie.Need-digit-text-requires Inv-loop μ-loop
-digit-text-requires c κs = let m : c .before .loop .rest % c .before .before .before .before .args .base < c .before .before .before .before .args .base = mod-lt (c .before .loop .rest) (omega arith) in omega arith
+digit-text-requires c κs =
+    let r = c .before .loop .rest in
+    let b = c .before .before .before .before .args .base in
+    let m : r % b < b = mod-lt r (omega arith) in
+    omega arith
 
 slice-write-line : tie.Need-slice-write-line Inv-loop μ-loop
 slice-write-line c = search needs

@@ -11,13 +11,18 @@ use Rattle.listing.proofs.texts.put_text.Statement.{statement}
 use Rattle.listing.proofs.texts.put_text.Tie as tie
 
 abbrev Inv-loop : tie.InvT-loop
-Inv-loop line₀ at text i₀ line i = (i ≤ length text) × (length line ≡ length line₀) × (sets line (at + i) (drop i text) ≡ sets line₀ at text)
+Inv-loop line₀ at text i₀ line i =
+    (i ≤ length text)
+    × (length line ≡ length line₀)
+    × (sets line (at + i) (drop i text) ≡ sets line₀ at text)
 
 abbrev μ-loop : tie.MeasureT-loop
 μ-loop line₀ at text i₀ line i = length text - i
 
 loop-holds : tie.Need-loop-holds Inv-loop μ-loop
-loop-holds c = (search needs, refl, ap (λ (k : ℕ). sets (c .args .line .now) k (c .args .text .now)) (add-zero (c .args .at)))
+loop-holds c =
+    let a = c .args in
+    (search needs, refl, ap (λ (k : ℕ). sets (a .line .now) k (a .text .now)) (add-zero (a .at)))
 
 shared-slice-read-line : tie.Need-shared-slice-read-line Inv-loop μ-loop
 shared-slice-read-line c = search needs
