@@ -13,14 +13,17 @@ use Rattle.listing.proofs.Columns.{Solid, numeral-solid, tag-solid, id-
 use Rattle.listing.proofs.Lines.{acceptedColumns, refusedColumns, rowColumns, accepted-is, refused-is, row-is}
 use Rattle.listing.proofs.Readback.{numeral-same, tag-same}
 
+-- two numbers with the same decimal text are the same
 decimal-same : (n m : ℕ) → numeral 10 1 n ≡ numeral 10 1 m → n ≡ m
 decimal-same n m e = numeral-same 10 1 n m (omega arith) (omega arith) e
 
+-- a decimal text is solid
 decimal-solid : (n : ℕ) → Solid (numeral 10 1 n)
 decimal-solid n = numeral-solid 10 1 n (omega arith)
 
 -- ---- rows
 
+-- the columns of a row are solid
 row-solid : (n : ℕ) (r : Row) → All Solid (rowColumns n r)
 row-solid n r = (
   decimal-solid n,
@@ -33,11 +36,13 @@ row-solid n r = (
   ),
 )
 
+-- two lists of six that are the same have the same elements
 six-same : (a a′ b b′ c c′ d d′ e e′ f f′ : List ℕ)
     → a ∷ b ∷ c ∷ d ∷ e ∷ f ∷ [] ≡ a′ ∷ b′ ∷ c′ ∷ d′ ∷ e′ ∷ f′ ∷ []
     → (a ≡ a′) × (b ≡ b′) × (c ≡ c′) × (d ≡ d′) × (e ≡ e′) × (f ≡ f′)
 six-same a a′ b b′ c c′ d d′ e e′ f f′ h = (cc, cc, cc, cc, cc, cc)
 
+-- two rows are the same where their four numbers are
 row-same : (r t : Row) → r .kind ≡ t .kind → r .offset ≡ t .offset → r .length ≡ t .length → r .owner ≡ t .owner → r ≡ t
 row-same r t k o l w =
     ap (λ (x : ℕ). record { kind = x; offset = r .offset; length = r .length; owner = r .owner }) k
@@ -45,6 +50,7 @@ row-same r t k o l w =
     ∙ ap (λ (x : ℕ). record { kind = t .kind; offset = t .offset; length = x; owner = r .owner }) l
     ∙ ap (λ (x : ℕ). record { kind = t .kind; offset = t .offset; length = t .length; owner = x }) w
 
+-- lines that are the same are of the same row at the same place
 pub rows-apart : (m n : ℕ) (r t : Row) → rowLine m r ≡ rowLine n t → (m ≡ n) × (r ≡ t)
 rows-apart m n r t h =
     let e = six-same _ _ _ _ _ _ _ _ _ _ _ _
@@ -60,10 +66,12 @@ rows-apart m n r t h =
 
 -- ---- first lines
 
+-- the columns of an accepted token's line are solid
 accepted-solid : (i n rows : ℕ) → All Solid (acceptedColumns i n rows)
 accepted-solid i n rows =
     (omega arith, (id-solid i, (decimal-solid n, (omega arith, (decimal-solid rows, (omega arith, tt))))))
 
+-- the columns of a refused token's line are solid
 refused-solid : (number place : ℕ) → All Solid (refusedColumns number place)
 refused-solid number place = (omega arith, (decimal-solid number, (omega arith, (decimal-solid place, tt))))
 
@@ -76,9 +84,11 @@ accepted-apart i j n m rows more h =
     (sym (accepted-is i n rows) ∙ h ∙ accepted-is j m more)) in
     (e .1, decimal-same n m (e .2), decimal-same rows more (e .4))
 
+-- two lists of four that are the same have the same second and the same fourth element
 four-same : (a a′ b b′ c c′ d d′ : List ℕ) → a ∷ b ∷ c ∷ d ∷ [] ≡ a′ ∷ b′ ∷ c′ ∷ d′ ∷ [] → (b ≡ b′) × (d ≡ d′)
 four-same a a′ b b′ c c′ d d′ h = (cc, cc)
 
+-- the refusal's number and place
 refused-apart : (i j n m number place other there : ℕ)
     → firstLine i n (Refused number place) ≡ firstLine j m (Refused other there) → (number ≡ other) × (place ≡ there)
 refused-apart i j n m number place other there h =
@@ -95,6 +105,7 @@ accepted-not-refused i j n m rows number place h =
     let z : _≡_ {A = ℕ} 0x74 0x72 = head-eq-of-cons-eq h in
     omega arith
 
+-- first lines that are the same are of the same answer
 pub answers-apart : (i j n m : ℕ) (a b : Answer) → firstLine i n a ≡ firstLine j m b → a ≡ b
 answers-apart i j n m (Accepted rows) (Accepted more) h = ap Accepted (accepted-apart i j n m rows more h .2)
 answers-apart i j n m (Accepted rows) (Refused number place) h =

@@ -18,27 +18,33 @@ Solid cs = All (λ (c : ℕ). 32 < c) cs
 
 -- ---- words and numbers are solid
 
+-- one of two solid texts is solid
 either-solid : (t : Bool) (x y : List ℕ) → Solid x → Solid y → Solid (elim t [ true ↦ x | false ↦ y ])
 either-solid true x y p q = p
 either-solid false x y p q = q
 
+-- a character of a digit, by the test that picks it
 digit-solid : (t : Bool) (d : ℕ) → 32 < elim t [ true ↦ 0x30 + d | false ↦ 0x37 + d ]
 digit-solid true d = omega arith
 digit-solid false d = omega arith
 
+-- characters of digits
 digits-solid : (ds : List ℕ) → Solid (map digitText ds)
 digits-solid [] = tt
 digits-solid (d ∷ ds) = (digit-solid (ltb d 10) d, digits-solid ds)
 
+-- a number
 pub numeral-solid : (b w n : ℕ) → 2 ≤ b → Solid (numeral b w n)
 numeral-solid b w n two =
     subst Solid (sym (numeral-last b w n two)) (digits-solid (lastDigits (max w (digitCount b n)) b n))
 
+-- a tag
 pub tag-solid : (g : ℕ) → Solid (tagText g)
 tag-solid g =
     either-solid (eqb g 0) (text "-") (hexadecimal 4 g) (omega arith, tt)
     (subst Solid (sym (hexadecimal-is 4 g)) (numeral-solid 16 4 g (omega arith)))
 
+-- the word for an id
 pub id-solid : (i : ℕ) → Solid (idText i)
 id-solid i =
     either-solid (eqb i 0x1E) (text "external") _ (omega arith)

@@ -20,6 +20,7 @@ unfoldable pub lastDigits : ℕ → ℕ → ℕ → List ℕ
 lastDigits zero b n = []
 lastDigits (suc w) b n = lastDigits w b (n / b) ++ (n % b ∷ [])
 
+-- there are w of them
 pub length-last : (w b n : ℕ) → length (lastDigits w b n) ≡ w
 unfolding lastDigits
 length-last zero b n = refl

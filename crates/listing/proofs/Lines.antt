@@ -41,23 +41,27 @@ rowColumns n r =
     ∷ numeral 10 1 (r .owner)
     ∷ []
 
+-- the definition of the line, of any texts in the place of its numbers
 accepted-columns : (a b c : List ℕ)
     → text "token " ++ a ++ text " " ++ b ++ text " bytes " ++ c ++ text " rows\n"
     ≡ columns (text "token" ∷ a ∷ b ∷ text "bytes" ∷ c ∷ text "rows" ∷ [])
 unfolding columns
 accepted-columns a b c = simp append-assoc
 
+-- the same of the line of a refused token
 refused-columns : (a b : List ℕ)
     → text "refused " ++ a ++ text " at " ++ b ++ text "\n" ≡ columns (text "refused" ∷ a ∷ text "at" ∷ b ∷ [])
 unfolding columns
 refused-columns a b = simp append-assoc
 
+-- the same of the line of a row
 row-columns : (a b c d e f : List ℕ)
     → a ++ text " " ++ b ++ text " " ++ c ++ text " " ++ d ++ text " " ++ e ++ text " " ++ f ++ text "\n"
     ≡ columns (a ∷ b ∷ c ∷ d ∷ e ∷ f ∷ [])
 unfolding columns
 row-columns a b c d e f = simp append-assoc
 
+-- the first line of an accepted token has these columns
 pub accepted-is : (i n rows : ℕ) → firstLine i n (Accepted rows) ≡ columns (acceptedColumns i n rows)
 unfolding firstLine
 accepted-is i n rows =
@@ -67,6 +71,7 @@ accepted-is i n rows =
     ∙ ap (λ (l : List ℕ). columns (text "token" ∷ idText i ∷ numeral 10 1 n ∷ text "bytes" ∷ l ∷ text "rows" ∷ []))
     (decimal-is rows)
 
+-- the line of a refused token has these
 pub refused-is : (i n number place : ℕ) → firstLine i n (Refused number place) ≡ columns (refusedColumns number place)
 unfolding firstLine
 refused-is i n number place =
@@ -74,10 +79,12 @@ refused-is i n number place =
     ∙ ap (λ (l : List ℕ). columns (text "refused" ∷ l ∷ text "at" ∷ decimal place ∷ [])) (decimal-is number)
     ∙ ap (λ (l : List ℕ). columns (text "refused" ∷ numeral 10 1 number ∷ text "at" ∷ l ∷ [])) (decimal-is place)
 
+-- columns that are the same, but for the third, which stays
 same-columns : (a a′ b b′ c d d′ e e′ f f′ : List ℕ) → a ≡ a′ → b ≡ b′ → d ≡ d′ → e ≡ e′ → f ≡ f′
     → columns (a ∷ b ∷ c ∷ d ∷ e ∷ f ∷ []) ≡ columns (a′ ∷ b′ ∷ c ∷ d′ ∷ e′ ∷ f′ ∷ [])
 same-columns a a′ b b′ c d d′ e e′ f f′ p o q r s = cc
 
+-- the line of a row has these
 pub row-is : (n : ℕ) (r : Row) → rowLine n r ≡ columns (rowColumns n r)
 unfolding rowLine
 row-is n r =

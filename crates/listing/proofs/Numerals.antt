@@ -12,10 +12,12 @@ use Rattle.listing.proofs.Digits.{lastDigits, length-last, digits-one, 
 
 -- ---- how many digits
 
+-- a number below the base has one
 pub count-one : (b n : ℕ) → n < b → digitCount b n ≡ 1
 unfolding digitCount
 count-one b n h = ap length (digits-one n b n h)
 
+-- any other has one more than its quotient
 pub count-more : (b n : ℕ) → 2 ≤ b → b ≤ n → digitCount b n ≡ digitCount b (n / b) + 1
 unfolding digitCount
 count-more b n two h =
@@ -23,10 +25,12 @@ count-more b n two h =
     ∙ ap (λ (l : List ℕ). length l + 1)
     (same-turns b two n (suc (n / b)) (n / b) (rest-below b n n two h (omega arith)) (omega arith))
 
+-- there is one
 pub count-some : (b n : ℕ) → 1 ≤ digitCount b n
 unfolding digitCount
 count-some b n = digits-some n b n
 
+-- a number below b to the k has k or fewer
 pub count-few : (b n k : ℕ) → 2 ≤ b → n < b ^ suc k → digitCount b n ≤ suc k
 unfolding digitCount
 count-few b n k two h = digits-few b two (suc n) n k h
@@ -37,12 +41,14 @@ count-ten b n ten h =
     count-few b n 9 (omega arith)
     (lt-of-lt-of-le (lt-of-lt-of-le h (lit≤ {m = 2 ^ 32} {n = 10 ^ 10} tt)) (pow-le-pow-left ten 10))
 
+-- b to as many as there are is above the number
 pub count-holds : (b n : ℕ) → 2 ≤ b → n < b ^ digitCount b n
 unfolding digitCount
 count-holds b n two = digits-hold b two (suc n) n (omega arith)
 
 -- ---- the text
 
+-- zeros in front are characters of the digit 0
 zero-text : (j : ℕ) → replicate j 0x30 ≡ map digitText (replicate j 0)
 zero-text zero = refl
 zero-text (suc j) = ap (λ (l : List ℕ). 0x30 ∷ l) (zero-text j)
@@ -61,6 +67,7 @@ numeral-last b w n two =
     ∙ sym (map-append digitText (replicate (w - k) 0) ds)
     ∙ ap (map digitText) l
 
+-- how many characters that are
 pub numeral-length : (b w n : ℕ) → 2 ≤ b → length (numeral b w n) ≡ max w (digitCount b n)
 numeral-length b w n two =
     ap length (numeral-last b w n two) ∙ length-map (lastDigits (max w (digitCount b n)) b n) digitText

@@ -39,6 +39,7 @@ digit-back d h =
     ∙ omega arith)
     (below-or-not d 10)
 
+-- one text behind another
 from-append : (b a : ℕ) (xs ys : List ℕ) → readFrom b a (xs ++ ys) ≡ readFrom b (readFrom b a xs) ys
 unfolding readFrom
 from-append b a [] ys = refl
