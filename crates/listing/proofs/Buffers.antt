@@ -1,0 +1,71 @@
+-- A line that was stored, cut out, and placed in a lent buffer. Assumes nothing.
+use mathlib.Core.Path.{_≡_, sym, ap, _∙_}
+use mathlib.Core.Logic.{⊎-elim}
+use mathlib.Core.Bool.{Bool, true, false}
+use mathlib.Core.List.{List, _++_}
+use Prim.Native.Nat.{ℕ, _+_, _<_, _≤_}
+use native.Mathlib.Nat.{zero-add}
+use native.Mathlib.Omega.{arith}
+use lib.Dec.{leb}
+use lib.ListN.{length, take, drop}
+use lib.Seq.{sets, sets-eq, take-at}
+use borrow.Author.Tests.{le-leb, lt-leb}
+use Rattle.listing.specs.declared.LineAnswer.the-variants.{Length, TooSmall}
+use Rattle.listing.specs.Buffers.{Stored, lineAnswer, lineIn}
+use Rattle.listing.proofs.Digits.{below-or-not}
+
+-- a test that holds picks the first of two, one that does not the second
+pub first-of : {A : Type 0} (t : Bool) (x y : A) → t ≡ true → elim t [ true ↦ x | false ↦ y ] ≡ x
+first-of t x y e = rw e
+
+pub second-of : {A : Type 0} (t : Bool) (x y : A) → t ≡ false → elim t [ true ↦ x | false ↦ y ] ≡ y
+second-of t x y e = rw e
+
+-- a text stored from the start on stands behind nothing and before the bytes that were there
+sets-front : (old line : List ℕ) → length line ≤ length old → sets old 0 line ≡ line ++ drop (length line) old
+sets-front old line h =
+    let z : 0 + length line ≡ length line = zero-add (length line) in
+    sets-eq line old 0 (omega arith) ∙ ap (λ (k : ℕ). line ++ drop k old) z
+
+-- the stored line is as many of the first bytes as it is long
+pub line-cut : (old line new : List ℕ) (n : ℕ) → Stored old 0 line new n → n ≤ length old → take n new ≡ line
+line-cut old line new n s h =
+    let e : length line ≡ n = sym (s .place ∙ zero-add (length line)) in
+    ap (take n) (s .bytes ∙ sets-front old line (omega arith)) ∙ take-at line (drop (length line) old) n e
+
+-- the buffer has no room for the line, or it has
+pub no-room : (line old : List ℕ) → length old < length line
+    → (lineAnswer line old ≡ TooSmall) × (lineIn line old ≡ old)
+unfolding lineAnswer lineIn
+no-room line old h =
+    let e : leb (length line) (length old) ≡ false = lt-leb (length line) (length old) h in
+    (second-of _ _ _ e, second-of _ _ _ e)
+
+pub room : (line old : List ℕ) → length line ≤ length old
+    → (lineAnswer line old ≡ Length (length line)) × (lineIn line old ≡ line ++ drop (length line) old)
+unfolding lineAnswer lineIn
+room line old h =
+    let e : leb (length line) (length old) ≡ true = le-leb (length line) (length old) h in
+    (first-of _ _ _ e, first-of _ _ _ e)
+
+-- a line that was stored where there is room for it
+pub line-placed : (line old new : List ℕ) (n : ℕ) → length line ≤ length old → Stored old 0 line new n
+    → (Length n ≡ lineAnswer line old) × (new ≡ lineIn line old)
+line-placed line old new n h s =
+    let r = room line old h in
+    (ap Length (s .place ∙ zero-add (length line)) ∙ sym (r .0), s .bytes ∙ sets-front old line h ∙ sym (r .1))
+
+-- an answered length is the line's, and it is at most the buffer's
+pub answered : (line old : List ℕ) (n : ℕ) → lineAnswer line old ≡ Length n
+    → (n ≡ length line) × (n ≤ length old)
+answered line old n e =
+    ⊎-elim
+    (λ (h : length old < length line).
+    let f : lineAnswer line old ≡ TooSmall = no-room line old h .0 in
+    let z : _≡_ {A = ℕ} 0 1 = cc in
+    absurd (omega arith))
+    (λ (h : length line ≤ length old).
+    let f : lineAnswer line old ≡ Length (length line) = room line old h .0 in
+    let z : n ≡ length line = cc in
+    (z, omega arith))
+    (below-or-not (length old) (length line))

@@ -1,0 +1,54 @@
+-- `first_line`: the line is made in an array of its own and then placed. Assumes nothing.
+use mathlib.Core.List.{List}
+use mathlib.Core.Path.{sym, ap, _∙_}
+use Prim.Native.Nat.{ℕ}
+use native.Mathlib.Omega.{arith}
+use lib.Seq.{length-take-le}
+use borrow.Author.Needs.{needs}
+use Rattle.listing.specs.Buffers.{lineAnswer, lineIn}
+use Rattle.listing.proofs.Buffers.{line-cut}
+use Rattle.listing.proofs.first_line.Statement.{statement}
+use Rattle.listing.proofs.first_line.Tie as tie
+
+slice-aggregate-put-first : tie.Need-slice-aggregate-put-first
+slice-aggregate-put-first c = search needs
+
+put-first-requires : tie.Need-put-first-requires
+put-first-requires c κs = search needs
+
+array-share-prefix-line : tie.Need-array-share-prefix-line
+array-share-prefix-line c =
+    let p = c .before .before .put-first in
+    omega (arith, p .kept .0, p .ensures .1)
+
+slice-aggregate-place-line : tie.Need-slice-aggregate-place-line
+slice-aggregate-place-line c =
+    let p = c .before .before .before .put-first in
+    sym (length-take-le (p .result) (p .last .0) (omega (arith, p .kept .0, p .ensures .1)))
+
+place-line-requires : tie.Need-place-line-requires
+place-line-requires c κs = search needs
+
+same-length : tie.Need-same-length
+same-length c = search needs
+
+returns : tie.Need-returns
+returns c =
+    let p = c .before .before .before .before .before .before .put-first in
+    let out = c .before .before .before .before .before .before .before .before .before .args .out .now in
+    let e = line-cut _ _ (p .last .0) (p .result) (p .ensures .0) (p .ensures .1) in (
+      c .before .before .place-line .ensures .0 ∙ ap (λ (l : List ℕ). lineAnswer l out) e,
+      c .before .before .place-line .ensures .1 ∙ ap (λ (l : List ℕ). lineIn l out) e,
+    )
+
+pub first-line-spec : {M : Type 1} → statement M
+first-line-spec =
+    tie.close
+    (tie.spec
+    slice-aggregate-put-first
+    put-first-requires
+    array-share-prefix-line
+    slice-aggregate-place-line
+    place-line-requires
+    same-length
+    returns)

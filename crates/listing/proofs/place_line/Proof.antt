@@ -1,0 +1,29 @@
+-- `place_line`: a line that has no room is not stored. Assumes nothing.
+use mathlib.Core.Path.{sym}
+use native.Mathlib.Omega.{arith}
+use borrow.Author.Needs.{needs}
+use Rattle.listing.proofs.Buffers.{no-room, line-placed}
+use Rattle.listing.proofs.place_line.Statement.{statement}
+use Rattle.listing.proofs.place_line.Tie as tie
+
+returns : tie.Need-returns
+returns c =
+    let a = c .before .before .before .args in
+    let r = no-room (a .line .now) (a .out .now) (omega arith) in
+    (sym (r .0), sym (r .1))
+
+put-text-requires : tie.Need-put-text-requires
+put-text-requires c κs = search needs
+
+same-length : tie.Need-same-length
+same-length c = search needs
+
+returns-2 : tie.Need-returns-2
+returns-2 c =
+    let b = c .before .before .before .before in
+    let a = b .before .before .before .args in
+    let p = c .before .before .put-text in
+    line-placed (a .line .now) (a .out .now) _ (p .result) (omega (arith, b .if1 .left)) (p .ensures)
+
+pub place-line-spec : {M : Type 1} → statement M
+place-line-spec = tie.close (tie.spec returns put-text-requires same-length returns-2)
