@@ -199,7 +199,7 @@ or-none : (b : Bool) → (b || false) ≡ (false || b)
 or-none true = refl
 or-none false = refl
 
-or-assoc : (a b c : Bool) → (a || (b || c)) ≡ ((a || b) || c)
+pub or-assoc : (a b c : Bool) → (a || (b || c)) ≡ ((a || b) || c)
 or-assoc true b c = refl
 or-assoc false b c = refl
 
