@@ -269,7 +269,7 @@ read-more {n} {k} {l} {seen} {later} s full x p w h f e m =
 -- ---- the start and the end
 
 -- Nothing is read yet.
-pub read-none : (s : List ℕ) (full x : Bool) (seen : List Bool) → 8 ≤ length s → ((i : ℕ) → getD seen i false ≡ false) → SectionsRead s full x 8 0 seen
+pub read-none : (s : List ℕ) (full x : Bool) (seen : List Bool) → 8 ≤ length s → ((i : ℕ) → i < 22 → getD seen i false ≡ false) → SectionsRead s full x 8 0 seen
 read-none s full x seen h z = record {
   before = [];
   ahead = refl;
@@ -277,7 +277,7 @@ read-none s full x seen h z = record {
   ends = h;
   rows = refl;
   few = omega arith;
-  marked = λ k a r. sym (z (sectionId k));
+  marked = λ k a r. sym (z (sectionId k) (id-small k));
   same = refl;
 }
 

@@ -1,3 +1,43 @@
 // The reading of a token: its answer, and its rows into a lent table. The public calls ask nothing.
 mod other; // other.rt: a section that is no rule
 mod runs; // runs.rt: the rules that follow each other
+mod whole; // whole.rt: the sections of a token or a draft
+mod header; // header.rt: the header of a token
+
+ghost use mathlib.Core.Path.{_≡_};
+ghost use Rattle.format.specs.Reading.{answer};
+ghost use Rattle.format.specs.Table.{tableAnswer, tableAfter};
+use crate::header::token_header;
+use crate::whole::sections_of;
+use format::Answer;
+use table::fill;
+
+// The answer for any bytes: 0 and the rows of a legal token, or the first fault and its place.
+pub fn read(token: &[u8]) -> Answer
+    ensures { λ r. ⌜ r ≡ answer (now (token .entry)) ⌝ }
+{
+    let f = token_header(token);
+    if f != 0 {
+        return Answer::Refused(f, 0);
+    }
+    sections_of(token, token[0] == 30, true)
+}
+
+// The same answer, and 23 with the rows needed where the table is too short for them. The rows of an accepted token are
+// in the table from its start on, four numbers each; what is behind them, and on refusal all of it, is as it was.
+pub fn read_table(token: &[u8], table: &mut [u32]) -> Answer
+    ensures answer { λ r. ⌜ r ≡ tableAnswer (now (token .entry)) (now (table .entry)) ⌝ }
+    ensures table { λ _. ⌜ now (table .exit) ≡ tableAfter (now (token .entry)) (now (table .entry)) ⌝ }
+{
+    let a = read(token);
+    match a {
+        Answer::Refused(f, at) => Answer::Refused(f, at),
+        Answer::Accepted(n) => {
+            if table.len() / 4 < n as usize {
+                return Answer::Refused(23, n);
+            }
+            fill(token, table);
+            Answer::Accepted(n)
+        }
+    }
+}

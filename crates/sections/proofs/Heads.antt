@@ -121,7 +121,7 @@ hold-case : (b : Bool) (h m r : ℕ) → not (eqb r 0) ≡ true → h ≡ 0 → 
 hold-case true h m r q z e = (refl, e)
 hold-case false h m r q z e = absurd (eqb-false r 0 (not-true (eqb r 0) q) (sym e ∙ z))
 
-all-hold : (cs : List Check) → numbered cs ≡ true → 0 ≡ firstRefusal cs → Hold cs
+pub all-hold : (cs : List Check) → numbered cs ≡ true → 0 ≡ firstRefusal cs → Hold cs
 unfolding firstRefusal
 all-hold [] f e = tt
 all-hold (c ∷ cs) f e =

@@ -1,0 +1,76 @@
+-- The reading's answer, the test for room, then the second pass.
+use mathlib.Core.Path.{_≡_, sym, ap, _∙_}
+use Prim.Native.Nat.{ℕ, _+_, _*_, _<_, _≤_}
+use native.Mathlib.Omega.{arith}
+use lib.ListN.{length, getD}
+use Rattle.reading.proofs.Filled.{bytes-of, accepted-read, refused-table, short-table, filled-table}
+use borrow.Author.Needs.{needs}
+use Rattle.reading.proofs.read_table.Statement.{statement}
+use Rattle.reading.proofs.read_table.Tie as tie
+use Rattle.reading.proofs.read_table.Reads as reads
+use Rattle.reading.proofs.read_table.Lts as lts
+use Rattle.reading.proofs.read.Reads as read-reads
+use Rattle.table.proofs.fill.Reads as fill-reads
+
+-- src/lib.rt:32:9
+read-requires : tie.Need-read-requires
+read-requires c κs = search needs
+
+-- src/lib.rt:34:25
+enum-known-a : tie.Need-enum-known-a
+enum-known-a c = search needs
+
+-- src/lib.rt:35:26
+enum-known-a-2 : tie.Need-enum-known-a-2
+enum-known-a-2 c = search needs
+
+-- src/lib.rt:36:34
+cast-if1 : tie.Need-cast-if1
+cast-if1 c = search needs
+
+-- src/lib.rt:37:17
+returns : tie.Need-returns
+returns c =
+    let s = c .before .before .before .before .before .before .before .args .token .now in
+    let t = c .before .before .before .before .before .before .before .args .table .now in
+    let w = accepted-read s (sym (c .before .before .a2 .given .1) ∙ c .before .before .before .before .read .ensures) in
+    short-table s t w (omega (arith, c .if1 .taken))
+
+-- src/lib.rt:39:13
+fill-requires : tie.Need-fill-requires
+fill-requires c κs =
+    let s = c .before .before .before .before .before .before .before .before .args .token .now in
+    let t = c .before .before .before .before .before .before .before .before .args .table .now in
+    let w = accepted-read s (sym (c .before .before .before .a2 .given .1) ∙ c .before .before .before .before .before .read .ensures) in
+    record { sections = w .sections; bytes = bytes-of s (λ k. (c .before .before .before .before .before .before .before .shared-slice-known .given k) .fits); read = w .read; room = omega (arith, c .before .if1 .left, w .rows) }
+
+-- src/lib.rt:28:1
+returns-2 : tie.Need-returns-2
+returns-2 c =
+    refused-table (c .before .before .before .before .before .before .args .token .now) (c .before .before .before .before .before .before .args .table .now) (sym (c .before .a .given .1) ∙ c .before .before .before .read .ensures)
+
+-- src/lib.rt:28:1
+same-length : tie.Need-same-length
+same-length c = search needs
+
+-- src/lib.rt:28:1
+returns-3 : tie.Need-returns-3
+returns-3 c =
+    let s = c .before .before .before .before .before .before .before .before .before .before .before .args .token .now in
+    let t = c .before .before .before .before .before .before .before .before .before .before .before .args .table .now in
+    let w = accepted-read s (sym (c .before .before .before .before .before .before .a2 .given .1) ∙ c .before .before .before .before .before .before .before .before .read .ensures) in
+    filled-table s t w (omega (arith, c .before .before .before .before .if1 .left)) (c .before .before .fill .ensures)
+
+pub read-table-spec : {M : Type 1} → statement M
+read-table-spec =
+    tie.close
+    (tie.spec
+    read-requires
+    enum-known-a
+    enum-known-a-2
+    cast-if1
+    returns
+    fill-requires
+    returns-2
+    same-length
+    returns-3)
