@@ -257,7 +257,7 @@ abbrev ofSlot : ℕ → Option Slot → Where
 ofSlot at o = elim o as (λ y. Where) [ none ↦ Missing 22 0 | some s ↦ At (at + s .offset) (s .width) ]
 
 -- An element behind the first one.
-next-element : {A : Type 0} (x : A) (xs : List A) (j : ℕ) → (j ≡ 0 → ⊥) → {o : Option A} → getElem? (x ∷ xs) j ≡ o → getElem? xs (j - 1) ≡ o
+pub next-element : {A : Type 0} (x : A) (xs : List A) (j : ℕ) → (j ≡ 0 → ⊥) → {o : Option A} → getElem? (x ∷ xs) j ≡ o → getElem? xs (j - 1) ≡ o
 next-element x xs zero h e = absurd (h refl)
 next-element x xs (suc j) h e = ap (getElem? xs) (let z : suc j - 1 ≡ j = omega arith in z) ∙ e
 
