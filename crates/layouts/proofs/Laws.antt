@@ -13,7 +13,7 @@ use Rattle.format.specs.Bytes.{All, number, bytesAt}
 use Rattle.format.specs.Layout.{Item, code, zeros, own, count, fixed, counted, Slot, slots, endOf}
 use Rattle.format.specs.Parts.{publicKey, rule, transportVariant, transportRule, exportParameters, sourceRule, tokenParameters}
 use Rattle.format.specs.Parts.{name, information, protection, dates, applicationData}
-use Rattle.format.specs.Parts.{Kind, kindNumber, isSubsection, sectionId, tag, body, layout, Part}
+use Rattle.format.specs.Parts.{Kind, kindNumber, isSubsection, sectionId, tag, body, layout}
 use Rattle.format.specs.Views.{slotOf}
 use Rattle.format.specs.declared.Where.{Where}
 use Rattle.format.specs.declared.Where.the-variants.{At, Missing}

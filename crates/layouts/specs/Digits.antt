@@ -1,12 +1,12 @@
 -- Internal: a layout as a number, a hexadecimal digit for each field, and what the walk through it keeps.
 use mathlib.Core.Path.{_≡_}
 use mathlib.Core.Bool.{Bool, true, false, _&&_}
-use mathlib.Core.List.{List, [], _∷_, _++_}
-use Prim.Native.Nat.{ℕ, zero, suc, _+_, _*_, _/_, _%_, _<_, _≤_}
+use mathlib.Core.List.{List, [], _∷_}
+use Prim.Native.Nat.{ℕ, suc, _+_, _*_, _/_, _%_, _<_, _≤_}
 use lib.Dec.{eqb, ltb}
 use lib.ListN.{length, getD, drop, getElem?}
 use Rattle.format.specs.Bytes.{number, bytesAt}
-use Rattle.format.specs.Layout.{Item, code, zeros, own, count, fixed, counted, Slot, slots, endOf}
+use Rattle.format.specs.Layout.{Item, code, zeros, own, count, fixed, counted, slots, endOf}
 use Rattle.format.specs.Parts.{Kind, kindNumber, layout, Part}
 use Rattle.format.specs.Reading.{madeLength}
 use Rattle.format.specs.Views.{slotOf}

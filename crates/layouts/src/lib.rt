@@ -36,18 +36,18 @@ fn width(digit: u64, first: usize, second: usize) -> usize
         3 => 32,
         6 => 64,
         9 => 16,
-        10 => 1,
-        11 => 2,
-        12 => 1,
-        13 => 2,
-        14 => first,
-        15 => second,
+        0xa => 1,
+        0xb => 2,
+        0xc => 1,
+        0xd => 2,
+        0xe => first,
+        0xf => second,
         _ => digit as usize,
     }
 }
 
-// A count behind the field at o: what the field states where its digit is that of the count in one byte or the next
-// digit, else what the count was.
+// A count behind the field at o: where the digit is the count's in one byte, or the next one, which is its in two, what
+// the field states; else what the count was before.
 fn count(s: &[u8], o: usize, digit: u64, one: u64, before: usize) -> usize
     requires { ⌜ CountRoom (now s) o digit one ⌝ }
     ensures { λ r. ⌜ CountBehind (now (s .entry)) o digit one before r ⌝ }
@@ -77,8 +77,8 @@ pub fn slot_at(s: &[u8], at: usize, kind: u32, field: usize) -> Where
         if left == 0 {
             return Where::At(o as u32, n as u32);
         }
-        first = count(s, o, digit, 10, first);
-        second = count(s, o, digit, 12, second);
+        first = count(s, o, digit, 0xa, first);
+        second = count(s, o, digit, 0xc, second);
         o += n;
         left -= 1;
         rest = rest / 16;

@@ -1,15 +1,15 @@
 -- Going over the parts of an accepted token: where it starts, the part at a place, its row, and the place behind it.
-use mathlib.Core.Path.{_≡_, refl, sym, ap, ap₂, _∙_}
+use mathlib.Core.Path.{_≡_, sym, ap, ap₂, _∙_}
 use mathlib.Core.Bool.{Bool, true, false, not, _||_}
 use mathlib.Core.List.{List, [], _∷_}
-use Prim.Native.Nat.{ℕ, suc, _+_, _*_, _<_, _≤_}
+use Prim.Native.Nat.{ℕ, _+_, _*_, _<_, _≤_}
 use native.Mathlib.Omega.{arith}
 use lib.Dec.{eqb}
 use lib.ListN.{length, getD, drop, length-drop}
 use lib.Seq.{take-all}
 use borrow.Author.Tests.{eqb-true}
 use Rattle.format.specs.Bytes.{number, bytesAt}
-use Rattle.format.specs.Parts.{sectionId, tag, kindNumber, isSubsection, Part, size, span, subsectionsLength, joins, writeParts}
+use Rattle.format.specs.Parts.{sectionId, kindNumber, isSubsection, Part, size, span, subsectionsLength, joins, writeParts}
 use Rattle.format.specs.Reading.{idOf, stated, partsOf}
 use Rattle.format.specs.declared.Row.{Row}
 use Rattle.format.proofs.Finding.{and-split, no-tag}
@@ -19,7 +19,7 @@ use Rattle.table.specs.Filling.{ownLength}
 use Rattle.table.proofs.Rows.{Here, here, section-here, sub-here, own-size}
 use Rattle.table.proofs.Steps.{stated-here, id-here, tag-here, id-byte, first-section}
 use Rattle.layouts.specs.Digits.{Standing}
-use Rattle.views.specs.Walk.{Whole, Left, Starts, Begins, ownerOf, rowOf, RowAt, Next, Behind}
+use Rattle.views.specs.Walk.{Whole, Left, Starts, Begins, ownerOf, rowOf, RowAt, Behind}
 use Rattle.views.specs.declared.Place.{Place}
 
 -- The first place, before all parts.

@@ -1,11 +1,11 @@
 -- Looking for a row: what is looked for among the rows from a place on is what was looked for at first.
-use mathlib.Core.Path.{_≡_, refl, sym, ap, ap₂, _∙_, subst}
+use mathlib.Core.Path.{_≡_, sym, ap, ap₂, _∙_}
 use mathlib.Core.List.{List, [], _∷_}
 use mathlib.Core.Option.{Option, none, some}
-use Prim.Native.Nat.{ℕ, zero, suc, _+_, _-_, _<_, _≤_}
+use Prim.Native.Nat.{ℕ, _-_, _<_, _≤_}
 use native.Mathlib.Omega.{arith}
 use lib.ListN.{length, getElem?}
-use Rattle.format.specs.Parts.{Part, kindNumber, size}
+use Rattle.format.specs.Parts.{Part}
 use Rattle.format.specs.Reading.{partsOf}
 use Rattle.format.specs.Table.{Placed, placed}
 use Rattle.format.specs.Views.{slotOf, fieldAt}
@@ -15,7 +15,7 @@ use Rattle.format.specs.declared.Where.the-variants.{Missing}
 use Rattle.format.proofs.Unique.{size-pos}
 use Rattle.layouts.specs.Digits.{Standing, InSlot}
 use Rattle.layouts.proofs.Laws.{next-element}
-use Rattle.views.specs.Walk.{Whole, Left, Starts, Begins, ownerOf, rowOf, RowAt, Next, Behind, Seeking}
+use Rattle.views.specs.Walk.{Whole, Left, Starts, Begins, ownerOf, rowOf, RowAt, Next, Behind, SameRow, Seeking}
 use Rattle.views.proofs.Places.{starts, left-length, begins, there, standing}
 use Rattle.views.specs.declared.Place.{Place}
 
@@ -44,7 +44,8 @@ further {s} {p} {r} w b = let n = b (w .part) (w .behind) (w .left) in omega (ar
 abbrev ofRow : List ℕ → ℕ → Option Placed → Where
 ofRow s field o = elim o as (λ y. Where) [ none ↦ Missing 22 0 | some x ↦ slotOf s (x .row .offset) (x .part) field ]
 
-field-found : (s : List ℕ) (w : Whole s) (row field : ℕ) → fieldAt s row field ≡ ofRow s field (getElem? (placed 8 0 0 (partsOf (w .sections))) row)
+field-found : (s : List ℕ) (w : Whole s) (row field : ℕ)
+    → fieldAt s row field ≡ ofRow s field (getElem? (placed 8 0 0 (partsOf (w .sections))) row)
 unfolding fieldAt
 field-found s w row field = rw (w .read, fieldAt)
 
@@ -64,9 +65,7 @@ module _ {s : List ℕ} {row : ℕ} {p : Place} {j : ℕ} where
   pub seek-on : {r : Place} → Seeking s row p j → p .at < length s → (j ≡ 0 → ⊥) → Behind s p r → Seeking s row r (j - 1)
   seek-on {r} w h k b = go (w .parts) (w .left) (w .same)
     where
-      go : (ps : List Part) → Left s p ps
-          → getElem? (placed (p .at) (p .row) (p .owner) ps) j ≡ getElem? (placed 8 0 0 (partsOf (w .whole .sections))) row
-          → Seeking s row r (j - 1)
+      go : (ps : List Part) → Left s p ps → SameRow (w .whole .sections) row p j ps → Seeking s row r (j - 1)
       go [] l e = absurd (let n = left-length l in omega arith)
       go (q ∷ qs) l e =
           let n = b q qs l in
@@ -88,9 +87,7 @@ module _ {s : List ℕ} {row : ℕ} {p : Place} {j : ℕ} where
       → InSlot s (p .at) (x .kind) field v → v ≡ fieldAt s row field
   seek-found {x} {field} {v} w h k e b = go (w .parts) (w .left) (w .same)
     where
-      go : (ps : List Part) → Left s p ps
-          → getElem? (placed (p .at) (p .row) (p .owner) ps) j ≡ getElem? (placed 8 0 0 (partsOf (w .whole .sections))) row
-          → v ≡ fieldAt s row field
+      go : (ps : List Part) → Left s p ps → SameRow (w .whole .sections) row p j ps → v ≡ fieldAt s row field
       go [] l f = absurd (let n = left-length l in omega arith)
       go (q ∷ qs) l f =
           b q (ap (λ (r : Row). r .kind) (e q qs l))
@@ -101,8 +98,6 @@ module _ {s : List ℕ} {row : ℕ} {p : Place} {j : ℕ} where
   pub seek-none : (field : ℕ) → Seeking s row p j → length s ≤ p .at → Missing 22 0 ≡ fieldAt s row field
   seek-none field w h = go (w .parts) (w .left) (w .same)
     where
-      go : (ps : List Part) → Left s p ps
-          → getElem? (placed (p .at) (p .row) (p .owner) ps) j ≡ getElem? (placed 8 0 0 (partsOf (w .whole .sections))) row
-          → Missing 22 0 ≡ fieldAt s row field
+      go : (ps : List Part) → Left s p ps → SameRow (w .whole .sections) row p j ps → Missing 22 0 ≡ fieldAt s row field
       go [] l f = ap (ofRow s field) f ∙ sym (field-found s (w .whole) row field)
       go (q ∷ qs) l f = absurd (let a = there q qs l in omega (arith, a .ends, a .least))

@@ -1,6 +1,5 @@
 -- The step at a place of the token: among the rows from a place on it is the same as among all.
 use mathlib.Core.Path.{_≡_, refl, sym, ap, ap₂, _∙_}
-use mathlib.Core.Bool.{Bool, true, false}
 use mathlib.Core.List.{List, [], _∷_, map}
 use Prim.Native.Nat.{ℕ, suc, _+_, _<_, _≤_}
 use native.Mathlib.Omega.{arith}
@@ -13,11 +12,10 @@ use Rattle.format.specs.Reading.{partsOf}
 use Rattle.format.specs.Table.{Placed, placed, rows}
 use Rattle.format.specs.Views.{nextPlace, stepIn, stepAt}
 use Rattle.format.specs.declared.Row.{Row}
-use Rattle.format.specs.declared.Step.{Step}
 use Rattle.format.specs.declared.Step.the-variants.{Record, End, Stopped}
 use Rattle.format.proofs.Grouping.{is-true, is-false}
-use Rattle.format.proofs.Unique.{size-any, size-pos}
-use Rattle.views.specs.Walk.{Whole, Left, Starts, Begins, rowOf, RowAt, Next, Behind, Stepping}
+use Rattle.format.proofs.Unique.{size-any}
+use Rattle.views.specs.Walk.{Whole, Left, Starts, Begins, rowOf, RowAt, Behind, SameStep, Stepping}
 use Rattle.views.proofs.Places.{starts, left-length, begins, there}
 use Rattle.views.proofs.Searching.{placed-start, placed-next}
 use Rattle.views.specs.declared.Place.{Place}
@@ -62,30 +60,34 @@ step-past {s} {at} w h =
 
 -- ---- the walk to the place
 
-pub steps : {s : List ℕ} {p : Place} {at : ℕ} → Whole s → Starts p → Stepping s at p
-steps {s} {p} {at} w e = record {
+pub steps : {s : List ℕ} {p : Place} {at : ℕ} → Whole s → at ≤ length s → Starts p → Stepping s at p
+steps {s} {p} {at} w h e = record {
   whole = w;
+  within = h;
   parts = partsOf (w .sections);
   left = starts w e;
   same = ap (λ (xs : List Placed). stepIn (length s) (rowsOf xs) at) (placed-start p (partsOf (w .sections)) e);
 }
 
 module _ {s : List ℕ} {at : ℕ} {p : Place} where
-  pub step-begins : Stepping s at p → p .at < length s → Begins s p
-  step-begins w h = begins (w .parts) (w .left) h
+  -- Before the place, and at it where it is not the token's end, a part begins.
+  pub step-begins : Stepping s at p → p .at < at → Begins s p
+  step-begins w h = begins (w .parts) (w .left) (omega (arith, w .within))
+
+  pub step-there : Stepping s at p → p .at ≡ at → (at ≡ length s → ⊥) → Begins s p
+  step-there w h k = begins (w .parts) (w .left) (omega (arith, w .within))
 
   -- Behind this part.
-  pub step-on : {r : Place} → Stepping s at p → p .at < at → p .at < length s → Behind s p r → Stepping s at r
-  step-on {r} w h k b = go (w .parts) (w .left) (w .same)
+  pub step-on : {r : Place} → Stepping s at p → p .at < at → Behind s p r → Stepping s at r
+  step-on {r} w h b = go (w .parts) (w .left) (w .same)
     where
-      go : (ps : List Part) → Left s p ps
-          → stepIn (length s) (rowsOf (placed (p .at) (p .row) (p .owner) ps)) at ≡ stepIn (length s) (rows (partsOf (w .whole .sections))) at
-          → Stepping s at r
-      go [] l e = absurd (let n = left-length l in omega arith)
+      go : (ps : List Part) → Left s p ps → SameStep (length s) (w .whole .sections) at p ps → Stepping s at r
+      go [] l e = absurd (let n = left-length l in omega (arith, w .within))
       go (q ∷ qs) l e =
           let n = b q qs l in
           record {
             whole = w .whole;
+            within = w .within;
             parts = qs;
             left = n .left;
             same =
@@ -105,29 +107,29 @@ module _ {s : List ℕ} {at : ℕ} {p : Place} where
   pub step-end : Stepping s at p → p .at ≡ at → at ≡ length s → End ≡ stepAt s at
   step-end w h k = go (w .parts) (w .left) (w .same)
     where
-      go : (ps : List Part) → Left s p ps
-          → stepIn (length s) (rowsOf (placed (p .at) (p .row) (p .owner) ps)) at ≡ stepIn (length s) (rows (partsOf (w .whole .sections))) at
-          → End ≡ stepAt s at
-      go [] l e = sym (is-true (eqb at (length s)) End (Stopped 22 0) (eq-eqb at (length s) k)) ∙ e ∙ sym (step-found s (w .whole) at)
+      go : (ps : List Part) → Left s p ps → SameStep (length s) (w .whole .sections) at p ps → End ≡ stepAt s at
+      go [] l e =
+          sym (is-true (eqb at (length s)) End (Stopped 22 0) (eq-eqb at (length s) k)) ∙ e ∙ sym (step-found s (w .whole) at)
       go (q ∷ qs) l e = absurd (let a = there q qs l in omega (arith, a .ends, a .least))
 
   -- The row of this part, and the next place.
-  pub step-row : {r : Place} {x : Row} → Stepping s at p → p .at ≡ at → p .at < length s → Behind s p r → RowAt s p x → Record x (r .at) ≡ stepAt s at
+  pub step-row : {r : Place} {x : Row} → Stepping s at p → p .at ≡ at → (at ≡ length s → ⊥) → Behind s p r → RowAt s p x
+      → Record x (r .at) ≡ stepAt s at
   step-row {r} {x} w h k b y = go (w .parts) (w .left) (w .same)
     where
       next : (qs : List Part) → Left s r qs → nextPlace (length s) (rowsOf (placed (r .at) (r .row) (r .owner) qs)) ≡ r .at
       next [] l = let n = left-length l in omega arith
       next (q ∷ qs) l = refl
 
-      go : (ps : List Part) → Left s p ps
-          → stepIn (length s) (rowsOf (placed (p .at) (p .row) (p .owner) ps)) at ≡ stepIn (length s) (rows (partsOf (w .whole .sections))) at
-          → Record x (r .at) ≡ stepAt s at
-      go [] l e = absurd (let n = left-length l in omega arith)
+      go : (ps : List Part) → Left s p ps → SameStep (length s) (w .whole .sections) at p ps → Record x (r .at) ≡ stepAt s at
+      go [] l e = absurd (k (let n = left-length l in omega arith))
       go (q ∷ qs) l e =
           let n = b q qs l in
           let rs : List Row = rowsOf (placed (r .at) (r .row) (r .owner) qs) in
           ap₂ Record (y q qs l) (sym (next qs (n .left)))
-          ∙ sym (is-true (eqb at (p .at)) (Record (rowOf p q qs) (nextPlace (length s) rs)) (stepIn (length s) rs at) (eq-eqb at (p .at) (sym h)))
+          ∙ sym
+          (is-true (eqb at (p .at)) (Record (rowOf p q qs) (nextPlace (length s) rs)) (stepIn (length s) rs at)
+          (eq-eqb at (p .at) (sym h)))
           ∙ sym (ap (λ (xs : List Placed). stepIn (length s) (rowsOf xs) at) (placed-next p r q qs n))
           ∙ e
           ∙ sym (step-found s (w .whole) at)

@@ -1,6 +1,6 @@
 -- Internal: what going over the parts of an accepted token starts from and keeps.
 use mathlib.Core.Path.{_≡_}
-use mathlib.Core.Bool.{Bool, true, false}
+use mathlib.Core.Bool.{true, false}
 use mathlib.Core.List.{List, [], _∷_, map}
 use Prim.Native.Nat.{ℕ, suc, _+_, _<_, _≤_}
 use lib.ListN.{length, drop, getElem?}
@@ -63,16 +63,25 @@ pub record Next (s : List ℕ) (p r : Place) (q : Part) (qs : List Part) : Type 
 abbrev pub Behind : List ℕ → Place → Place → Type 0
 Behind s p r = (q : Part) (qs : List Part) → Left s p (q ∷ qs) → Next s p r q qs
 
--- What is looked for among the rows from the place on, at number j, is what was looked for at first.
+-- row number j of these parts from the place on is row number `row` of the sections
+abbrev pub SameRow : List Section → ℕ → Place → ℕ → List Part → Type 0
+SameRow ss row p j ps = getElem? (placed (p .at) (p .row) (p .owner) ps) j ≡ getElem? (placed 8 0 0 (partsOf ss)) row
+
+-- the row that is looked for is number j from the place on
 pub record Seeking (s : List ℕ) (row : ℕ) (p : Place) (j : ℕ) : Type 0 where
   pub whole : Whole s
   pub parts : List Part
   pub left : Left s p parts
-  pub same : getElem? (placed (p .at) (p .row) (p .owner) parts) j ≡ getElem? (placed 8 0 0 (partsOf (whole .sections))) row
+  pub same : SameRow (whole .sections) row p j parts
 
--- The step at a place of the token is one among the rows from here on.
+-- a step among the rows of these parts from the place on is the step among those of the sections
+abbrev pub SameStep : ℕ → List Section → ℕ → Place → List Part → Type 0
+SameStep e ss at p ps = stepIn e (map (λ x. x .row) (placed (p .at) (p .row) (p .owner) ps)) at ≡ stepIn e (rows (partsOf ss)) at
+
+-- the step within the token is one among the rows from the place on
 pub record Stepping (s : List ℕ) (at : ℕ) (p : Place) : Type 0 where
   pub whole : Whole s
+  pub within : at ≤ length s
   pub parts : List Part
   pub left : Left s p parts
-  pub same : stepIn (length s) (map (λ x. x .row) (placed (p .at) (p .row) (p .owner) parts)) at ≡ stepIn (length s) (rows (partsOf (whole .sections))) at
+  pub same : SameStep (length s) (whole .sections) at p parts

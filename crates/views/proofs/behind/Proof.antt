@@ -20,7 +20,8 @@ own-length-requires c κs = search needs
 add-t11 : tie.Need-add-t11
 add-t11 c =
     let w = c .before .before .before .before .before .before .pre in
-    let n = section-behind (c .before .before .if1 .taken) (c .before .before .before .before .two .ensures .0) (c .own-length .ensures) (w .part) (w .behind) (w .left) in
+    let b = section-behind (c .before .before .if1 .taken) (c .before .before .before .before .two .ensures .0) (c .own-length .ensures) in
+    let n = b (w .part) (w .behind) (w .left) in
     omega (arith, n .left .front, w .left .short)
 
 add-t12 : tie.Need-add-t12
@@ -30,7 +31,9 @@ add-t13 : tie.Need-add-t13
 add-t13 c = search needs
 
 returns : tie.Need-returns
-returns c = section-behind (c .before .before .before .if1 .taken) (c .before .before .before .before .before .two .ensures .0) (c .before .own-length .ensures)
+returns c =
+    section-behind (c .before .before .before .if1 .taken) (c .before .before .before .before .before .two .ensures .0)
+    (c .before .own-length .ensures)
 
 add-t6 : tie.Need-add-t6
 add-t6 c = search needs

@@ -26,7 +26,9 @@ slot-at-requires : tie.Need-slot-at-requires Inv-loop μ-loop
 slot-at-requires c κs = seek-stands (c .before .before .before .before .loop .inv) (c .before .before .if1 .taken) (c .row-at .ensures)
 
 returns : tie.Need-returns Inv-loop μ-loop
-returns c = seek-found (c .before .before .before .before .before .loop .inv) (c .before .before .before .if1 .taken) (c .before .before .if2 .taken) (c .before .row-at .ensures) (c .slot-at .ensures)
+returns c =
+    let w = c .before .before .before .before .before .loop .inv in
+    seek-found w (c .before .before .before .if1 .taken) (c .before .before .if2 .taken) (c .before .row-at .ensures) (c .slot-at .ensures)
 
 behind-requires : tie.Need-behind-requires Inv-loop μ-loop
 behind-requires c κs = seek-begins (c .before .before .before .loop .inv) (c .before .if1 .taken)

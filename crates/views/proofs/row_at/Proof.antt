@@ -57,7 +57,9 @@ cast-t20 : tie.Need-cast-t20
 cast-t20 c = search needs
 
 returns-2 : tie.Need-returns-2
-returns-2 c = sub-row (c .before .before .before .if1 .left) (c .before .before .before .before .before .two .ensures .0) (c .before .two2 .ensures .0)
+returns-2 c =
+    let d = c .before .before .before in
+    sub-row (d .if1 .left) (d .before .before .two .ensures .0) (c .before .two2 .ensures .0)
 
 pub row-at-spec : {M : Type 1} → statement M
 row-at-spec =
