@@ -1,28 +1,22 @@
--- The walk through a layout, digit by digit.
-use mathlib.Core.Path.{_≡_, refl, sym, ap, ap₂, _∙_, subst}
+-- The digits of a layout: the length of each field, and the counts behind it.
+use mathlib.Core.Path.{_≡_, refl, sym, ap, _∙_, subst}
 use mathlib.Core.Bool.{Bool, true, false, _&&_}
 use mathlib.Core.List.{List, [], _∷_, _++_}
-use mathlib.Core.Option.{Option, none, some}
-use Prim.Native.Nat.{ℕ, zero, suc, _+_, _*_, _/_, _%_, _-_, _<_, _≤_}
+use Prim.Native.Nat.{ℕ, zero, suc, _+_, _*_, _-_, _<_}
 use native.Mathlib.Omega.{arith}
 use lib.Dec.{eqb, ltb}
-use lib.ListN.{length, getD, drop, getElem?, take, length-append, List·getD-append}
+use lib.ListN.{length, getD, drop, take, length-append, List·getD-append}
 use lib.Seq.{getD-append-seam, drop-drop}
 use borrow.Author.Tests.{eqb-true, ne-eqb, ltb-true, ltb-false}
 use Rattle.format.specs.Bytes.{All, number, bytesAt}
-use Rattle.format.specs.Layout.{Item, code, zeros, own, count, fixed, counted, Slot, slots, endOf}
+use Rattle.format.specs.Layout.{Item, code, zeros, own, count, fixed, counted, slots}
 use Rattle.format.specs.Parts.{publicKey, rule, transportVariant, transportRule, exportParameters, sourceRule, tokenParameters}
 use Rattle.format.specs.Parts.{name, information, protection, dates, applicationData}
-use Rattle.format.specs.Parts.{Kind, kindNumber, isSubsection, sectionId, tag, body, layout}
-use Rattle.format.specs.Views.{slotOf}
-use Rattle.format.specs.declared.Where.{Where}
-use Rattle.format.specs.declared.Where.the-variants.{At, Missing}
+use Rattle.format.specs.Parts.{Kind, kindNumber, layout}
 use Rattle.format.proofs.Numbers.{number-one}
 use Rattle.format.proofs.Finding.{and-split, number-told}
 use Rattle.format.proofs.Grouping.{is-false}
-use Rattle.format.proofs.PartForm.{frame-fields}
-use Rattle.format.proofs.Slots.{end-le}
-use Rattle.layouts.specs.Digits.{choose, plainWidth, widthOf, showsPlain, shows, countsBehind, shown, ShowsKind, CountRoom, CountBehind, InSlot, Standing, Lying, Slotting}
+use Rattle.layouts.specs.Digits.{choose, plainWidth, widthOf, showsPlain, shows, countsBehind, shown, ShowsKind, CountBehind}
 
 -- ---- digits of a kind, and the length by a digit
 
@@ -44,8 +38,8 @@ plain-width d first second h =
     (λ e. omega arith, (λ e. omega arith, (λ e. omega arith, (λ e. omega arith, (λ e. omega arith, (λ e. omega arith, tt))))))
 
 -- The length by any other digit is the digit.
-pub width-other : (d f g : ℕ) → (d ≡ 3 → ⊥) → (d ≡ 6 → ⊥) → (d ≡ 9 → ⊥) → (d ≡ 10 → ⊥) → (d ≡ 11 → ⊥) → (d ≡ 12 → ⊥) → (d ≡ 13 → ⊥)
-    → (d ≡ 14 → ⊥) → (d ≡ 15 → ⊥) → d ≡ widthOf d f g
+pub width-other : (d f g : ℕ) → (d ≡ 3 → ⊥) → (d ≡ 6 → ⊥) → (d ≡ 9 → ⊥) → (d ≡ 10 → ⊥) → (d ≡ 11 → ⊥)
+    → (d ≡ 12 → ⊥) → (d ≡ 13 → ⊥) → (d ≡ 14 → ⊥) → (d ≡ 15 → ⊥) → d ≡ widthOf d f g
 unfolding widthOf
 width-other d f g a b c h i j k l m =
     sym
@@ -53,9 +47,10 @@ width-other d f g a b c h i j k l m =
     ∙ choose-none d d ((3, 32) ∷ (6, 64) ∷ (9, 16) ∷ []) (a, (b, (c, tt))))
 
 -- A number that is no kind's.
-pub no-kind : (n v : ℕ) → (n ≡ 0x110000 → ⊥) → (n ≡ 0x120000 → ⊥) → (n ≡ 0x120001 → ⊥) → (n ≡ 0x120002 → ⊥) → (n ≡ 0x120003 → ⊥)
-    → (n ≡ 0x120004 → ⊥) → (n ≡ 0x120005 → ⊥) → (n ≡ 0x130000 → ⊥) → (n ≡ 0x140000 → ⊥) → (n ≡ 0x140001 → ⊥) → (n ≡ 0x140002 → ⊥)
-    → (n ≡ 0x150000 → ⊥) → ShowsKind n v
+pub no-kind : (n v : ℕ) → (n ≡ 0x110000 → ⊥) → (n ≡ 0x120000 → ⊥) → (n ≡ 0x120001 → ⊥)
+    → (n ≡ 0x120002 → ⊥) → (n ≡ 0x120003 → ⊥) → (n ≡ 0x120004 → ⊥) → (n ≡ 0x120005 → ⊥)
+    → (n ≡ 0x130000 → ⊥) → (n ≡ 0x140000 → ⊥) → (n ≡ 0x140001 → ⊥) → (n ≡ 0x140002 → ⊥) → (n ≡ 0x150000 → ⊥)
+    → ShowsKind n v
 no-kind n v a b c d e f g h i j k l publicKey q = absurd (a q)
 no-kind n v a b c d e f g h i j k l rule q = absurd (b q)
 no-kind n v a b c d e f g h i j k l transportVariant q = absurd (c q)
@@ -160,7 +155,8 @@ width-counted (suc zero) ns h = refl
 width-counted (suc (suc j)) ns h = absurd (omega arith)
 
 -- The length of a field is the one by its digit.
-pub width-told : (i : Item) (ns : List ℕ) (d : ℕ) → shows (length ns) i d ≡ true → widthOf d (getD ns 0 0) (getD ns 1 0) ≡ itemWidth ns i
+pub width-told : (i : Item) (ns : List ℕ) (d : ℕ) → shows (length ns) i d ≡ true
+    → widthOf d (getD ns 0 0) (getD ns 1 0) ≡ itemWidth ns i
 width-told (code w v) ns d e = width-plain w d _ _ e
 width-told (zeros n q) ns d e = width-plain n d _ _ e
 width-told (own w) ns d e = width-plain w d _ _ e
@@ -175,7 +171,7 @@ width-told (counted j) ns d e =
 -- ---- the counts behind a field
 
 -- The field of a digit that is a count's is as long as the digit says.
-count-width : (i : Item) (ns : List ℕ) (d j w : ℕ) → shows (length ns) i d ≡ true → j < 2 → w < 2 → d ≡ 10 + 2 * j + w
+pub count-width : (i : Item) (ns : List ℕ) (d j w : ℕ) → shows (length ns) i d ≡ true → j < 2 → w < 2 → d ≡ 10 + 2 * j + w
     → itemWidth ns i ≡ suc w
 count-width (code v x) ns d j w e h k q = absurd (let t = plain-told v d e in omega arith)
 count-width (zeros n x) ns d j w e h k q = absurd (let t = plain-told n d e in omega arith)
@@ -196,10 +192,12 @@ unfolding bytesAt
 bytes-behind s at o n = ap (take n) (sym (drop-drop o at s))
 
 count-stated : (ns s : List ℕ) (at o d j w : ℕ) {r : ℕ} → d ≡ 9 + 2 * length ns + suc w → length ns < 2 → suc w < 3 → j < 2
-    → CountBehind s (at + o) d (10 + 2 * j) (getD ns j 0) r → r ≡ getD (ns ++ (number (bytesAt (drop at s) o (suc w)) ∷ [])) j 0
+    → CountBehind s (at + o) d (10 + 2 * j) (getD ns j 0) r
+    → r ≡ getD (ns ++ (number (bytesAt (drop at s) o (suc w)) ∷ [])) j 0
 count-stated ns s at o d j w {r} e n k h c = go (ltb j (length ns)) (ltb (length ns) j) refl refl
   where
-    go : (a b : Bool) → ltb j (length ns) ≡ a → ltb (length ns) j ≡ b → r ≡ getD (ns ++ (number (bytesAt (drop at s) o (suc w)) ∷ [])) j 0
+    go : (a b : Bool) → ltb j (length ns) ≡ a → ltb (length ns) j ≡ b
+        → r ≡ getD (ns ++ (number (bytesAt (drop at s) o (suc w)) ∷ [])) j 0
     go true b p q =
         let l = ltb-true j (length ns) p in
         c .2 (omega arith) ∙ sym (List·getD-append ns (number (bytesAt (drop at s) o (suc w)) ∷ []) 0 j l)
@@ -216,7 +214,7 @@ count-stated ns s at o d j w {r} e n k h c = go (ltb j (length ns)) (ltb (length
         ∙ ap (λ (x : ℕ). getD (ns ++ (number (bytesAt (drop at s) o (suc w)) ∷ [])) x 0) z
 
 -- Count number j behind the field at o, where its digits are 10 + 2 * j and the next.
-count-known : (i : Item) (ns s : List ℕ) (at o d j : ℕ) {r : ℕ} → shows (length ns) i d ≡ true → j < 2
+pub count-known : (i : Item) (ns s : List ℕ) (at o d j : ℕ) {r : ℕ} → shows (length ns) i d ≡ true → j < 2
     → CountBehind s (at + o) d (10 + 2 * j) (getD ns j 0) r → r ≡ getD (countsAfter ns i (drop at s) o) j 0
 count-known (code w v) ns s at o d j e h c = let t = plain-told w d e in c .1 (omega arith)
 count-known (zeros n q) ns s at o d j e h c = let t = plain-told n d e in c .1 (omega arith)
@@ -229,147 +227,26 @@ count-known (fixed n) ns s at o d j e h c = let t = plain-told n d e in c .1 (om
 count-known (counted k) ns s at o d j e h c = let t = counted-told (length ns) k d e in c .2 (omega arith)
 
 -- A count in one byte, in two, and another field.
-pub count-one : (s : List ℕ) (o d one before : ℕ) {r : ℕ} → d ≡ one → o < length s → r ≡ getD s o 0 → CountBehind s o d one before r
+pub count-one : (s : List ℕ) (o d one before : ℕ) {r : ℕ} → d ≡ one → o < length s → r ≡ getD s o 0
+    → CountBehind s o d one before r
 count-one s o d one before {r} e h q = (
   λ w f k. q ∙ sym (number-one s o h) ∙ ap (λ (n : ℕ). number (bytesAt s o (suc n))) (let z : 0 ≡ w = omega arith in z),
   λ k. absurd (omega arith),
   λ k. absurd (omega arith),
 )
 
-pub count-two : (s : List ℕ) (o d one before : ℕ) {r : ℕ} → d ≡ one + 1 → r ≡ number (bytesAt s o 2) → CountBehind s o d one before r
+pub count-two : (s : List ℕ) (o d one before : ℕ) {r : ℕ} → d ≡ one + 1 → r ≡ number (bytesAt s o 2)
+    → CountBehind s o d one before r
 count-two s o d one before {r} e q = (
   λ w f k. q ∙ ap (λ (n : ℕ). number (bytesAt s o (suc n))) (let z : 1 ≡ w = omega arith in z),
   λ k. absurd (omega arith),
   λ k. absurd (omega arith),
 )
 
-pub count-kept : (s : List ℕ) (o d one before : ℕ) → (d ≡ one → ⊥) → (d ≡ one + 1 → ⊥) → CountBehind s o d one before before
+pub count-kept : (s : List ℕ) (o d one before : ℕ) → (d ≡ one → ⊥) → (d ≡ one + 1 → ⊥)
+    → CountBehind s o d one before before
 count-kept s o d one before a b = (
   λ w f k. absurd (b (let n : d ≡ one → ⊥ = a in omega arith)),
   λ k. refl,
   λ k. refl,
 )
-
--- ---- a turn
-
--- Where a field lies, its slot given.
-abbrev ofSlot : ℕ → Option Slot → Where
-ofSlot at o = elim o as (λ y. Where) [ none ↦ Missing 22 0 | some s ↦ At (at + s .offset) (s .width) ]
-
--- An element behind the first one.
-pub next-element : {A : Type 0} (x : A) (xs : List A) (j : ℕ) → (j ≡ 0 → ⊥) → {o : Option A} → getElem? (x ∷ xs) j ≡ o → getElem? xs (j - 1) ≡ o
-next-element x xs zero h e = absurd (h refl)
-next-element x xs (suc j) h e = ap (getElem? xs) (let z : suc j - 1 ≡ j = omega arith in z) ∙ e
-
--- What is left begins with a field.
-pub record Field (s : List ℕ) (at kind field n o first second j : ℕ) : Type 0 where
-  pub item : Item
-  pub behind : List Item
-  pub lying : Lying s at kind field n o first second j (item ∷ behind)
-  pub digit : shows (length (lying .counts)) item (n % 16) ≡ true
-  pub after : shown (countsBehind (length (lying .counts)) item) behind (n / 16) ≡ true
-  pub width : widthOf (n % 16) first second ≡ itemWidth (lying .counts) item
-  pub room : o + itemWidth (lying .counts) item ≤ length s
-
-module _ {s : List ℕ} {at kind field n o first second j : ℕ} where
-  pub here : Slotting s at kind field n o first second j → (n ≡ 0 → ⊥) → Field s at kind field n o first second j
-  here w h = go (w .items) (w .lying)
-    where
-      go : (l : List Item) → Lying s at kind field n o first second j l → Field s at kind field n o first second j
-      go [] y = absurd (h (eqb-true n 0 (y .digits)))
-      go (i ∷ l) y =
-          let ns : List ℕ = y .counts in
-          let d = and-split (shows (length ns) i (n % 16)) (shown (countsBehind (length ns) i) l (n / 16)) (y .digits) in
-          let e = ap (endOf (y .offset)) (slots-first i l ns (drop at s) (y .offset)) in
-          let f = end-le l (countsAfter ns i (drop at s) (y .offset)) (drop at s) (y .offset + itemWidth ns i) in
-          record {
-            item = i;
-            behind = l;
-            lying = y;
-            digit = d .0;
-            after = d .1;
-            width = ap₂ (widthOf (n % 16)) (y .one) (y .two) ∙ width-told i ns (n % 16) (d .0);
-            room = omega (arith, y .inside, y .place);
-          }
-
-  -- The bytes of a count are there.
-  pub count-room : (w : Field s at kind field n o first second j) (k : ℕ) → k < 2 → CountRoom s o (n % 16) (10 + 2 * k)
-  count-room w k h = (omega arith, λ v e b. (let c = count-width (w .item) (w .lying .counts) (n % 16) k v (w .digit) h b e in omega (arith, w .room)))
-
-  -- Where the field asked for is the first that is left, it lies here.
-  pub lies-here : (w : Field s at kind field n o first second j) → j ≡ 0 → {v : ℕ} → v ≡ widthOf (n % 16) first second
-      → InSlot s at kind field (At o v)
-  lies-here w h {v} e p q =
-      let y = w .lying in
-      let r : List ℕ = drop at s in
-      let f : getElem? (slots [] (layout (p .kind)) r 0) field ≡ some (record { item = w .item; offset = y .offset; width = itemWidth (y .counts) (w .item) }) =
-      ap (λ (k : Kind). getElem? (slots [] (layout k) r 0) field) (number-told (p .kind) (y .standing .kind) (sym q ∙ y .standing .told))
-      ∙ sym (y .same)
-      ∙ ap₂ (λ (l : List Slot) (i : ℕ). getElem? l i) (slots-first (w .item) (w .behind) (y .counts) r (y .offset)) h in
-      ap₂ At (y .place) (e ∙ w .width) ∙ sym (ap (ofSlot at) f)
-
-  -- The fields behind this one.
-  pub goes-on : (w : Field s at kind field n o first second j) → (j ≡ 0 → ⊥) → {v f g : ℕ} → v ≡ widthOf (n % 16) first second
-      → CountBehind s o (n % 16) 10 first f → CountBehind s o (n % 16) 12 second g → Slotting s at kind field (n / 16) (o + v) f g (j - 1)
-  goes-on w h {v} {f} {g} e a b =
-      let y = w .lying in
-      let ns : List ℕ = y .counts in
-      let x : ℕ = y .offset in
-      let r : List ℕ = drop at s in
-      let ms : List ℕ = countsAfter ns (w .item) r x in
-      let l = counts-length (w .item) ns r x in
-      let d = slots-first (w .item) (w .behind) ns r x in
-      let c : CountBehind s (at + x) (n % 16) (10 + 2 * 0) (getD ns 0 0) f =
-      subst (λ (z : ℕ). CountBehind s (at + x) (n % 16) 10 z f) (y .one) (subst (λ (z : ℕ). CountBehind s z (n % 16) 10 first f) (y .place) a) in
-      let k : CountBehind s (at + x) (n % 16) (10 + 2 * 1) (getD ns 1 0) g =
-      subst (λ (z : ℕ). CountBehind s (at + x) (n % 16) 12 z g) (y .two) (subst (λ (z : ℕ). CountBehind s z (n % 16) 12 second g) (y .place) b) in
-      record {
-        items = w .behind;
-        lying = record {
-          standing = y .standing;
-          counts = ms;
-          offset = x + itemWidth ns (w .item);
-          place = omega (arith, y .place, e, w .width);
-          digits = ap (λ (z : ℕ). shown z (w .behind) (n / 16)) l ∙ w .after;
-          one = count-known (w .item) ns s at x (n % 16) 0 (w .digit) (omega arith) c;
-          two = count-known (w .item) ns s at x (n % 16) 1 (w .digit) (omega arith) k;
-          inside = subst (λ (z : List Slot). at + endOf x z ≤ length s) d (y .inside);
-          same = next-element (record { item = w .item; offset = x; width = itemWidth ns (w .item) }) (slots ms (w .behind) r (x + itemWidth ns (w .item))) j h (sym (ap (λ (z : List Slot). getElem? z j) d) ∙ y .same);
-        };
-      }
-
-  -- Behind the last field there is none.
-  pub lies-nowhere : Slotting s at kind field n o first second j → n ≡ 0 → InSlot s at kind field (Missing 22 0)
-  lies-nowhere w h p q = go (w .items) (w .lying)
-    where
-      go : (l : List Item) → Lying s at kind field n o first second j l → Missing 22 0 ≡ slotOf s at p field
-      go [] y =
-          sym
-          (ap (ofSlot at)
-          (ap (λ (k : Kind). getElem? (slots [] (layout k) (drop at s) 0) field) (number-told (p .kind) (y .standing .kind) (sym q ∙ y .standing .told))
-          ∙ sym (y .same)))
-      go (i ∷ l) y =
-          absurd
-          (let d = digit-pos i (length (y .counts)) (n % 16)
-          (and-split (shows (length (y .counts)) i (n % 16)) (shown (countsBehind (length (y .counts)) i) l (n / 16)) (y .digits) .0) in
-          omega arith)
-
--- The walk starts at the first field.
-pub starts : {s : List ℕ} {at kind field n : ℕ} → Standing s at kind → ShowsKind kind n → Slotting s at kind field n at 0 0 field
-starts {s} {at} {kind} {field} {n} w d =
-    let k : Kind = w .kind in
-    let e = frame-fields (isSubsection k) (sectionId k) (tag k) (body k) (drop at s) .1 in
-    record {
-      items = layout k;
-      lying = record {
-        standing = w;
-        counts = [];
-        offset = 0;
-        place = omega arith;
-        digits = d k (w .told);
-        one = refl;
-        two = refl;
-        inside = omega (arith, w .inside, e);
-        same = refl;
-      };
-    }

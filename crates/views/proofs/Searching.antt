@@ -14,7 +14,7 @@ use Rattle.format.specs.declared.Where.{Where}
 use Rattle.format.specs.declared.Where.the-variants.{Missing}
 use Rattle.format.proofs.Unique.{size-pos}
 use Rattle.layouts.specs.Digits.{Standing, InSlot}
-use Rattle.layouts.proofs.Laws.{next-element}
+use Rattle.layouts.proofs.Turns.{next-element}
 use Rattle.views.specs.Walk.{Whole, Left, Starts, Begins, ownerOf, rowOf, RowAt, Next, Behind, SameRow, Seeking}
 use Rattle.views.proofs.Places.{starts, left-length, begins, there, standing}
 use Rattle.views.specs.declared.Place.{Place}

@@ -1,7 +1,7 @@
 -- Where a field lies: what is looked for among the fields that are left is what was looked for at first.
 use native.Mathlib.Omega.{arith}
 use Rattle.layouts.specs.Digits.{Slotting}
-use Rattle.layouts.proofs.Laws.{starts, here, count-room, lies-here, goes-on, lies-nowhere}
+use Rattle.layouts.proofs.Turns.{starts, here, count-room, lies-here, goes-on, lies-nowhere}
 use Rattle.layouts.proofs.slot_at.Statement.{statement}
 use Rattle.layouts.proofs.slot_at.Tie as tie
 
