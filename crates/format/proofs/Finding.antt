@@ -71,7 +71,7 @@ pub every-kind : (f : Kind → Bool) → eachKind f kinds ≡ true → (k : Kind
 every-kind f h k = eachKind-found f (λ j. eqb (kindNumber j) (kindNumber k)) k kinds h (kindOf-told k)
 
 -- Kinds with the same number are the same.
-number-told : (j k : Kind) → kindNumber j ≡ kindNumber k → j ≡ k
+pub number-told : (j k : Kind) → kindNumber j ≡ kindNumber k → j ≡ k
 number-told j k e = cc (kindOf-told j, kindOf-told k, ap kindOf e)
 
 -- A kind is told by its section id and its tag.

@@ -217,7 +217,7 @@ module _ {s t₀ t u : List ℕ} {p e i owner n : ℕ} where
 -- ---- the start and the end
 
 -- No subsection stands first.
-first-section : (ps : List Part) → joins 0 ps ≡ true → subsectionsLength ps ≡ 0
+pub first-section : (ps : List Part) → joins 0 ps ≡ true → subsectionsLength ps ≡ 0
 first-section [] j = refl
 first-section (q ∷ qs) j = go (isSubsection (q .kind)) refl
   where

@@ -8,7 +8,7 @@ ghost use Rattle.table.specs.Filling.{Fillable, filled, ownLength};
 use fields::two;
 
 // The bytes of a section's own fields, where it states that length.
-fn own_length(id: u8, length: usize) -> usize
+pub fn own_length(id: u8, length: usize) -> usize
     ensures { λ r. ⌜ r ≡ ownLength id length ⌝ }
 {
     match id {

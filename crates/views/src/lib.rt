@@ -1,0 +1,122 @@
+// Internal: the fields and the rows of a token that the reading accepts, found by going over its parts.
+ghost use mathlib.Core.Path.{_≡_};
+ghost use Rattle.format.specs.Views.{fieldAt, stepAt};
+ghost use Rattle.views.specs.Walk.{Whole, Starts, Begins, RowAt, Behind};
+use fields::two;
+use format::Row;
+use format::Step;
+use format::Where;
+use layouts::slot_at;
+use table::own_length;
+
+// A place where a part of the token begins, or its end: the id, the row and the end of the section before it, and how
+// many rows come before.
+pub struct Place {
+    pub at: usize,
+    pub end: usize,
+    pub id: u8,
+    pub row: usize,
+    pub owner: usize,
+}
+
+// The place of the first part: no section stands before it.
+fn start() -> Place
+    ensures { λ r. ⌜ Starts r ⌝ }
+{
+    Place {
+        at: 8,
+        end: 8,
+        id: 0,
+        row: 0,
+        owner: 0,
+    }
+}
+
+// The row of the part at this place.
+fn row_at(s: &[u8], p: Place) -> Row
+    requires { ⌜ Begins (now s) p ⌝ }
+    ensures { λ r. ⌜ RowAt (now (s .entry)) p r ⌝ }
+{
+    let at = p.at;
+    let length = two(s, at + 2);
+    if at == p.end {
+        return Row {
+            kind: s[at] as u32 * 65536,
+            offset: at as u32,
+            length: length as u32,
+            owner: p.row as u32,
+        };
+    }
+    Row {
+        kind: p.id as u32 * 65536 + two(s, at) as u32,
+        offset: at as u32,
+        length: length as u32,
+        owner: p.owner as u32,
+    }
+}
+
+// The place behind the part at this one.
+fn behind(s: &[u8], p: Place) -> Place
+    requires { ⌜ Begins (now s) p ⌝ }
+    ensures { λ r. ⌜ Behind (now (s .entry)) p r ⌝ }
+{
+    let at = p.at;
+    let length = two(s, at + 2);
+    if at == p.end {
+        let id = s[at];
+        return Place {
+            at: at + own_length(id, length),
+            end: at + length,
+            id: id,
+            row: p.row + 1,
+            owner: p.row,
+        };
+    }
+    Place {
+        at: at + length,
+        end: p.end,
+        id: p.id,
+        row: p.row + 1,
+        owner: p.owner,
+    }
+}
+
+// Where a field of a row lies.
+pub fn field_in(s: &[u8], row: usize, field: usize) -> Where
+    requires { ⌜ Whole (now s) ⌝ }
+    ensures { λ r. ⌜ r ≡ fieldAt (now (s .entry)) row field ⌝ }
+{
+    let mut p = start();
+    let mut left = row;
+    while p.at < s.len() {
+        if left == 0 {
+            let found = row_at(s, p);
+            return slot_at(s, p.at, found.kind, field);
+        }
+        p = behind(s, p);
+        left -= 1;
+    }
+    Where::Missing(22, 0)
+}
+
+// The row that begins at a place, with the place of the next.
+pub fn step_in(s: &[u8], at: usize) -> Step
+    requires { ⌜ Whole (now s) ⌝ }
+    ensures { λ r. ⌜ r ≡ stepAt (now (s .entry)) at ⌝ }
+{
+    if at > s.len() {
+        return Step::Stopped(22, 0);
+    }
+    let mut p = start();
+    while p.at < at {
+        p = behind(s, p);
+    }
+    if p.at != at {
+        return Step::Stopped(22, 0);
+    }
+    if at == s.len() {
+        return Step::End;
+    }
+    let next = behind(s, p);
+    Step::Record(row_at(s, p), next.at as u32)
+}
