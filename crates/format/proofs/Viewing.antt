@@ -75,7 +75,7 @@ no-row bs l k j h =
     found-field bs l k j ∙ ap (ofRow bs j) (nowhere (placed 8 0 0 (l .parts)) k (omega arith))
 
 -- Of an illegal token no field lies anywhere.
-no-token : (bs : List ℕ) (f : Fault) (k j : ℕ) → reading true bs ≡ refused f
+pub no-token : (bs : List ℕ) (f : Fault) (k j : ℕ) → reading true bs ≡ refused f
     → fieldAt bs k j ≡ Missing (f .number) (f .part)
 unfolding fieldAt
 no-token bs f k j e = rw (e, fieldAt)

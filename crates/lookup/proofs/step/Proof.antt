@@ -1,0 +1,41 @@
+-- The reading first, then the step.
+use mathlib.Core.Path.{_≡_, sym, _∙_}
+use Rattle.lookup.proofs.Laws.{whole, walk-refused}
+use borrow.Author.Needs.{needs}
+use Rattle.lookup.proofs.step.Statement.{statement}
+use Rattle.lookup.proofs.step.Tie as tie
+use Rattle.lookup.proofs.step.Reads as reads
+use Rattle.lookup.proofs.step.Lts as lts
+use Rattle.reading.proofs.read.Reads as read-reads
+use Rattle.views.proofs.step_in.Reads as step-in-reads
+
+-- src/lib.rt:50:9
+read-requires : tie.Need-read-requires
+read-requires c κs = search needs
+
+-- src/lib.rt:52:25
+enum-known-a : tie.Need-enum-known-a
+enum-known-a c = search needs
+
+-- src/lib.rt:53:26
+enum-known-a-2 : tie.Need-enum-known-a-2
+enum-known-a-2 c = search needs
+
+-- src/lib.rt:53:36
+step-in-requires : tie.Need-step-in-requires
+step-in-requires c κs =
+    whole (c .before .before .before .before .before .args .token .now) (sym (c .before .a2 .given .1) ∙ c .before .before .before .read .ensures) (λ k. (c .before .before .before .before .shared-slice-known .given k) .fits)
+
+-- src/lib.rt:47:1
+returns : tie.Need-returns
+returns c =
+    walk-refused (c .before .before .before .before .before .args .token .now) (c .before .before .before .before .before .args .place) (sym (c .before .a .given .1) ∙ c .before .before .before .read .ensures)
+
+-- src/lib.rt:47:1
+returns-2 : tie.Need-returns-2
+returns-2 c = search needs
+
+pub step-spec : {M : Type 1} → statement M
+step-spec =
+    tie.close
+    (tie.spec read-requires enum-known-a enum-known-a-2 step-in-requires returns returns-2)

@@ -1,0 +1,37 @@
+-- Where the field lies, as an answer.
+use mathlib.Core.Path.{_≡_, sym, ap, _∙_}
+use Rattle.format.specs.Views.{whetherThere, viewAnswer}
+use borrow.Author.Needs.{needs}
+use Rattle.lookup.proofs.view_answer.Statement.{statement}
+use Rattle.lookup.proofs.view_answer.Tie as tie
+use Rattle.lookup.proofs.view_answer.Reads as reads
+use Rattle.lookup.proofs.view_answer.Lts as lts
+use Rattle.lookup.proofs.field_at.Reads as field-at-reads
+
+-- src/lib.rt:39:9
+field-at-requires : tie.Need-field-at-requires
+field-at-requires c κs = search needs
+
+-- src/lib.rt:41:24
+enum-known-w : tie.Need-enum-known-w
+enum-known-w c = search needs
+
+-- src/lib.rt:42:19
+enum-known-w-2 : tie.Need-enum-known-w-2
+enum-known-w-2 c = search needs
+
+-- src/lib.rt:36:1
+returns : tie.Need-returns
+unfolding viewAnswer
+returns c =
+    ap whetherThere (sym (c .before .w .given .1) ∙ c .before .before .before .field-at .ensures)
+
+-- src/lib.rt:36:1
+returns-2 : tie.Need-returns-2
+unfolding viewAnswer
+returns-2 c =
+    ap whetherThere (sym (c .before .w2 .given .1) ∙ c .before .before .before .field-at .ensures)
+
+pub view-answer-spec : {M : Type 1} → statement M
+view-answer-spec =
+    tie.close (tie.spec field-at-requires enum-known-w enum-known-w-2 returns returns-2)
