@@ -2,6 +2,8 @@
 use Prim.Native.Nat.{ℕ}
 use Rattle.format.specs.declared.Answer.{Answer}
 use Rattle.format.specs.declared.Answer.the-variants.{Accepted, Refused}
+use Rattle.format.specs.declared.Where.{Where}
+use Rattle.format.specs.declared.Where.the-variants.{At, Missing}
 
 -- the number of the call's result
 unfoldable pub numberOf : Answer → ℕ
@@ -12,3 +14,12 @@ numberOf (Refused n p) = n
 unfoldable pub secondOf : Answer → ℕ
 secondOf (Accepted n) = n
 secondOf (Refused n p) = p
+
+-- where a field lies, as two numbers: both 0 on refusal
+unfoldable pub offsetOf : Where → ℕ
+offsetOf (At o n) = o
+offsetOf (Missing n p) = 0
+
+unfoldable pub lengthOf : Where → ℕ
+lengthOf (At o n) = n
+lengthOf (Missing n p) = 0

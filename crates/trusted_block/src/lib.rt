@@ -2,8 +2,11 @@
 ghost use mathlib.Core.Path.{_≡_};
 ghost use Rattle.format.specs.Reading.{answer};
 ghost use Rattle.format.specs.Table.{tableAnswer, tableAfter};
-ghost use Rattle.trusted_block.specs.Numbers.{numberOf, secondOf};
+ghost use Rattle.format.specs.Views.{fieldAt, viewAnswer};
+ghost use Rattle.trusted_block.specs.Numbers.{numberOf, secondOf, offsetOf, lengthOf};
 use format::Answer;
+use format::Where;
+use lookup::field_at;
 use reading::read;
 use reading::read_table;
 
@@ -41,4 +44,36 @@ pub extern "C" fn tb_read_table(token: &[u8], table: &mut [u32], second: &mut u3
     ensures second { λ _. ⌜ now (second .exit) ≡ secondOf (tableAnswer (now (token .entry)) (now (table .entry))) ⌝ }
 {
     give(read_table(token, table), second)
+}
+
+// Where the field of a row lies in the token.
+#[no_mangle]
+pub extern "C" fn tb_view(
+    token: &[u8],
+    row: u32,
+    field: u32,
+    second: &mut u32,
+    offset: &mut u32,
+    length: &mut u32,
+) -> u32
+    ensures number { λ r. ⌜ r ≡ numberOf (viewAnswer (now (token .entry)) row field) ⌝ }
+    ensures second { λ _. ⌜ now (second .exit) ≡ secondOf (viewAnswer (now (token .entry)) row field) ⌝ }
+    ensures offset { λ _. ⌜ now (offset .exit) ≡ offsetOf (fieldAt (now (token .entry)) row field) ⌝ }
+    ensures length { λ _. ⌜ now (length .exit) ≡ lengthOf (fieldAt (now (token .entry)) row field) ⌝ }
+{
+    let w = field_at(token, row, field);
+    match w {
+        Where::At(o, n) => {
+            *second = 0;
+            *offset = o;
+            *length = n;
+            0
+        }
+        Where::Missing(number, place) => {
+            *second = place;
+            *offset = 0;
+            *length = 0;
+            number
+        }
+    }
 }
