@@ -8,7 +8,7 @@ ghost use Rattle.listing.specs.Numerals.{digitCount, numeral};
 ghost use Rattle.listing.specs.Buffers.{Stored};
 
 // The bytes of a text, from the place `at` on.
-pub fn put_text(line: &mut [u8], at: usize, text: &[u8]) -> usize
+pub(crate) fn put_text(line: &mut [u8], at: usize, text: &[u8]) -> usize
     requires { ⌜ at + length (now text) ≤ length (now line) ⌝ }
     ensures { λ r. ⌜ Stored (now (line .entry)) at (now (text .entry)) (now (line .exit)) r ⌝ }
 {
@@ -59,7 +59,14 @@ fn digit_places(n: u32, base: u32, width: usize) -> usize
 }
 
 // A number in a base with at least `width` digits, from the place `at` on, and the byte `end` behind it.
-pub fn put_number(line: &mut [u8], at: usize, n: u32, base: u32, width: usize, end: u8) -> usize
+pub(crate) fn put_number(
+    line: &mut [u8],
+    at: usize,
+    n: u32,
+    base: u32,
+    width: usize,
+    end: u8,
+) -> usize
     requires { ⌜ (10 ≤ base) × (base ≤ 16) × (width ≤ 10) × (at + 11 ≤ length (now line)) ⌝ }
     ensures { λ r. ⌜ Stored (now (line .entry)) at (numeral base width n ++ (end ∷ [])) (now (line .exit)) r ⌝ }
     ensures short { λ r. ⌜ r ≤ at + 11 ⌝ }
@@ -77,7 +84,7 @@ pub fn put_number(line: &mut [u8], at: usize, n: u32, base: u32, width: usize, e
 }
 
 // The word for a token's id, and a space behind it.
-pub fn put_id(line: &mut [u8], at: usize, id: u8) -> usize
+pub(crate) fn put_id(line: &mut [u8], at: usize, id: u8) -> usize
     requires { ⌜ at + 9 ≤ length (now line) ⌝ }
     ensures { λ r. ⌜ Stored (now (line .entry)) at (idText id ++ (32 ∷ [])) (now (line .exit)) r ⌝ }
     ensures short { λ r. ⌜ r ≤ at + 9 ⌝ }
@@ -90,7 +97,7 @@ pub fn put_id(line: &mut [u8], at: usize, id: u8) -> usize
 }
 
 // A tag in four digits, - for a section, and a space behind it.
-pub fn put_tag(line: &mut [u8], at: usize, tag: u32) -> usize
+pub(crate) fn put_tag(line: &mut [u8], at: usize, tag: u32) -> usize
     requires { ⌜ at + 11 ≤ length (now line) ⌝ }
     ensures { λ r. ⌜ Stored (now (line .entry)) at (tagText tag ++ (32 ∷ [])) (now (line .exit)) r ⌝ }
     ensures short { λ r. ⌜ r ≤ at + 11 ⌝ }

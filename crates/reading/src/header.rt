@@ -18,7 +18,7 @@ fn known_id(id: u8) -> bool
 }
 
 // The number of the first refusal of a token's header, 0 where there is none.
-pub fn token_header(s: &[u8]) -> u32
+pub(crate) fn token_header(s: &[u8]) -> u32
     ensures { λ r. ⌜ r ≡ firstRefusal (headerChecks true (now (s .entry))) ⌝ }
 {
     if s.len() < 8 {

@@ -27,7 +27,7 @@ fn alone(refusal: u32, p: usize) -> Answer
 }
 
 // The section at p, which is no rule and of which four bytes are there; seen says, at its id, whether its kind stands before.
-pub fn other_at(s: &[u8], p: usize, external: bool, full: bool, seen: &[bool; 22]) -> Answer
+pub(crate) fn other_at(s: &[u8], p: usize, external: bool, full: bool, seen: &[bool; 22]) -> Answer
     requires { ⌜ (p + 4 ≤ length (now s)) × (length (now s) ≤ 3500) × (number (bytesAt (now s) p 1) ≡ 18 → ⊥) ⌝ }
     ensures { λ r. ⌜ ((before : List Section) → Marked (now (seen .entry)) before → r ≡ told sectionRows (section full external before p (drop p (now (s .entry))))) ⌝ }
 {

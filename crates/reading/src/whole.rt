@@ -12,7 +12,7 @@ use fields::wide;
 use format::Answer;
 
 // The sections of s from place 8 on.
-pub fn sections_of(s: &[u8], external: bool, full: bool) -> Answer
+pub(crate) fn sections_of(s: &[u8], external: bool, full: bool) -> Answer
     requires { ⌜ (8 ≤ length (now s)) × (length (now s) ≤ 3500) ⌝ }
     ensures { λ r. ⌜ r ≡ sectionsAnswer (now (s .entry)) full external ⌝ }
 {
