@@ -1,0 +1,66 @@
+-- The line of a row, written as far as it goes.
+use mathlib.Core.Path.{_≡_, sym, _∙_}
+use native.Mathlib.Omega.{arith}
+use lib.Seq.{length-take-le}
+use Rattle.listing.proofs.Main.{length-answered}
+use borrow.Author.Needs.{needs}
+use Rattle.list_token.proofs.write_row.Statement.{statement}
+use Rattle.list_token.proofs.write_row.Tie as tie
+use Rattle.list_token.proofs.write_row.Reads as reads
+use Rattle.list_token.proofs.write_row.Lts as lts
+use Rattle.io.proofs.write_all.Reads as write-all-reads
+use Rattle.listing.proofs.row_line.Reads as row-line-reads
+
+-- src/main.rt:24:22
+slice-aggregate-row-line : tie.Need-slice-aggregate-row-line
+slice-aggregate-row-line c = search needs
+
+-- src/main.rt:24:9
+row-line-requires : tie.Need-row-line-requires
+row-line-requires c κs = search needs
+
+-- src/main.rt:25:28
+enum-known-a : tie.Need-enum-known-a
+enum-known-a c = search needs
+
+-- src/main.rt:26:9
+enum-told : tie.Need-enum-told
+enum-told c = search needs
+
+-- src/main.rt:26:9
+returns : tie.Need-returns
+returns c = search needs
+
+-- src/main.rt:28:34
+array-share-prefix-line : tie.Need-array-share-prefix-line
+array-share-prefix-line c =
+    let f = length-answered _ _ _ (sym (c .before .before .before .before .row-line .ensures .0) ∙ c .before .a .given .1) in
+    omega (arith, f .1, c .before .before .before .before .row-line .kept .0)
+
+-- src/main.rt:28:34
+slice-aggregate-write-all : tie.Need-slice-aggregate-write-all
+slice-aggregate-write-all c =
+    let f = length-answered _ _ _ (sym (c .before .before .before .before .before .row-line .ensures .0) ∙ c .before .before .a .given .1) in
+    sym (length-take-le _ (c .before .before .before .before .before .row-line .last .0) (omega (arith, f .1, c .before .before .before .before .before .row-line .kept .0)))
+
+-- src/main.rt:28:5
+write-all-requires : tie.Need-write-all-requires
+write-all-requires c κs = search needs
+
+-- src/main.rt:22:1
+returns-2 : tie.Need-returns-2
+returns-2 c = search needs
+
+pub write-row-spec : {M : Type 1} → statement M
+write-row-spec =
+    tie.close
+    (tie.spec
+    slice-aggregate-row-line
+    row-line-requires
+    enum-known-a
+    enum-told
+    returns
+    array-share-prefix-line
+    slice-aggregate-write-all
+    write-all-requires
+    returns-2)

@@ -1,0 +1,88 @@
+// Reads one token from standard input, at most 3,501 bytes, and writes its listing to standard output.
+ghost use Prim.Native.Nat.{_≤_};
+ghost use lib.ListN.{length};
+use format::Answer;
+use format::Row;
+use libc::STDIN_FILENO;
+use libc::STDOUT_FILENO;
+use listing::LineAnswer;
+use listing::first_line;
+use listing::row_line;
+use reading::read_table;
+
+// Writes the first line.
+fn write_first(id: u8, length: u32, answer: Answer) {
+    let mut line = [0u8; 96];
+    let a = first_line(&mut line, id, length, answer);
+    let LineAnswer::Length(n) = a else {
+        return;
+    };
+    io::write_all(STDOUT_FILENO, &line[..n]);
+}
+
+// Writes the line of a row.
+fn write_row(place: u32, row: Row) {
+    let mut line = [0u8; 96];
+    let a = row_line(&mut line, place, row);
+    let LineAnswer::Length(n) = a else {
+        return;
+    };
+    io::write_all(STDOUT_FILENO, &line[..n]);
+}
+
+// Writes the line of row n of a table.
+fn write_nth(table: &[u32; 1200], n: usize) {
+    if 300 <= n {
+        return;
+    }
+    let i = 4 * n;
+    let row = Row {
+        kind: table[i],
+        offset: table[i + 1],
+        length: table[i + 2],
+        owner: table[i + 3],
+    };
+    write_row(n as u32, row);
+}
+
+// Writes the lines of the first n rows of a table.
+fn write_rows(table: &[u32; 1200], n: usize) {
+    let mut i: usize = 0;
+    while i < n {
+        write_nth(table, i);
+        i += 1;
+    }
+}
+
+// The id of a token, 0 where there is none.
+fn id_of(token: &[u8]) -> u8 {
+    if token.len() == 0 {
+        return 0;
+    }
+    token[0]
+}
+
+// Writes the listing of a token.
+fn list(token: &[u8])
+    requires { ⌜ length (now token) ≤ 3501 ⌝ }
+{
+    let mut table = [0u32; 1200];
+    let answer = read_table(token, &mut table);
+    let id = id_of(token);
+    let length = token.len() as u32;
+    match answer {
+        Answer::Refused(number, place) => {
+            write_first(id, length, Answer::Refused(number, place));
+        }
+        Answer::Accepted(rows) => {
+            write_first(id, length, Answer::Accepted(rows));
+            write_rows(&table, rows as usize);
+        }
+    }
+}
+
+fn main() {
+    let mut token = [0u8; 3501];
+    let n = io::read_full(STDIN_FILENO, &mut token);
+    list(&token[..n]);
+}
