@@ -31,7 +31,27 @@ pub fn samples() -> Vec<Sample> {
             with_key(&[1, 0, 1]),
         ),
         sample("the same, exponent of 512 bytes", 0, with_key(&[0x91; 512])),
+        sample("171 bare rules of one hash", 0, rules_of_one_hash()),
     ]
+}
+
+/// The token of 171 bare rules on which the library's set of Rule IDs is
+/// slowest: by its hash all of them want the same place.
+fn rules_of_one_hash() -> Vec<u8> {
+    let same = |number: &usize| hash(&numbered_rule(*number)[4..12]) == 0;
+    let numbers = (0..).filter(same).take(171);
+    smallest_with(&numbers.map(numbered_rule).collect::<Vec<_>>())
+}
+
+/// The library's hash of a Rule ID.
+fn hash(rule_id: &[u8]) -> u64 {
+    let half = |bytes: &[u8]| {
+        bytes
+            .iter()
+            .fold(0, |sum, byte| sum * 256 + u64::from(*byte))
+    };
+    let (high, low) = (half(&rule_id[..4]), half(&rule_id[4..]));
+    (high * 1_640_531_527 + low * 2_135_587_861) / 8_388_608 % 512
 }
 
 /// 171 bare rules in an order that is not that of their Rule IDs.
