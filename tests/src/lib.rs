@@ -11,6 +11,8 @@ pub mod forms;
 pub mod generate;
 /// Numbers of the kinds, and their least lengths.
 pub mod kinds;
+/// The proved library, through its C calls.
+pub mod library;
 /// The listing of a token.
 pub mod listing;
 /// Parts with their fields, and the written form of a choice of parts.
@@ -19,6 +21,8 @@ pub mod parts;
 pub mod random;
 /// The reading of tokens and drafts, and the table.
 pub mod reader;
+/// Tokens written out by hand.
+pub mod samples;
 /// Views of fields, and the walk from row to row.
 pub mod views;
 /// The writer on a lent draft.

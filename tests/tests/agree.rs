@@ -1,6 +1,9 @@
 //! The reader against the quick one over generated tokens. How many tokens
 //! is set by TRUSTED_BLOCK_TOKENS; 20,000 at least, so that the tallies hold.
 
+mod common;
+
+use common::{count_of_tokens, Tally};
 use trusted_block_tests::fast::{fast_fill, fast_read};
 use trusted_block_tests::generate::damage::{damaged, with_fault};
 use trusted_block_tests::generate::faults::{CONTENT, LENGTHS};
@@ -9,31 +12,6 @@ use trusted_block_tests::kinds;
 use trusted_block_tests::parts::{written, Part};
 use trusted_block_tests::random::Random;
 use trusted_block_tests::reader::{read, read_answer, read_table, Answer};
-
-fn count_of_tokens() -> usize {
-    let asked = std::env::var("TRUSTED_BLOCK_TOKENS").ok();
-    let count = asked.map_or(300_000, |text| text.parse().expect("a count of tokens"));
-    count.max(20_000)
-}
-
-/// How often each number was the answer.
-#[derive(Default)]
-struct Tally {
-    numbers: [usize; 26],
-}
-
-impl Tally {
-    fn add(&mut self, answer: Answer) {
-        self.numbers[answer.number as usize] += 1;
-    }
-
-    fn assert_reached(&self, numbers: impl Iterator<Item = usize>, least: usize) {
-        for number in numbers {
-            let count = self.numbers[number];
-            assert!(count >= least, "{number}: {count} of {:?}", self.numbers);
-        }
-    }
-}
 
 /// A table that is too small, just large enough, or larger.
 fn any_table(random: &mut Random, rows: usize) -> Vec<u32> {

@@ -1,37 +1,18 @@
 //! Every example of document 01, and those of the readings taken, against
-//! the reader, the quick reader, the table, the listing and the writer.
+//! the proved library, the reader, the quick reader, the table, the listing
+//! and the writer.
 
 mod common;
 
 use common::*;
-use trusted_block_tests::fast::{fast_fill, fast_read};
+use trusted_block_tests::fast::fast_fill;
 use trusted_block_tests::forms;
+use trusted_block_tests::library;
 use trusted_block_tests::listing::{listing, program_output};
 use trusted_block_tests::parts::Part;
-use trusted_block_tests::reader::{read_answer, read_draft, read_table, Answer};
+use trusted_block_tests::reader::{read_draft, read_table};
 use trusted_block_tests::views::{taken_apart, view};
 use trusted_block_tests::writer;
-
-const UNTOUCHED: u32 = 0xDEAD_BEEF;
-
-/// Reads by both readers, with and without a table; the table changes only
-/// when the token is accepted, and not past its rows.
-fn read_every_way(token: &[u8]) -> Answer {
-    let expected = read_answer(token);
-    assert_eq!(fast_read(token), expected);
-    let mut table = [UNTOUCHED; 1300];
-    assert_eq!(read_table(token, &mut table), expected);
-    let mut other = [UNTOUCHED; 1300];
-    assert_eq!(fast_fill(token, &mut other), expected);
-    assert_eq!(table, other);
-    let written = match expected.number {
-        0 => 4 * expected.second as usize,
-        _ => 0,
-    };
-    assert!(table[..written].iter().all(|value| *value != UNTOUCHED));
-    assert!(table[written..].iter().all(|value| *value == UNTOUCHED));
-    expected
-}
 
 fn assert_refused(token: &[u8], number: u32, place: u32) {
     assert_eq!(read_every_way(token), answer(number, place));
@@ -79,10 +60,14 @@ fn table_without_room_is_23_with_the_rows_needed() {
         let mut table = vec![7; length];
         assert_eq!(read_table(&token, &mut table), answer(23, 2));
         assert_eq!(fast_fill(&token, &mut table), answer(23, 2));
+        assert_eq!(library::read_table(&token, &mut table), answer(23, 2));
         assert_eq!(table, vec![7; length]);
     }
     let mut table = [7; 8];
     assert_eq!(read_table(&token, &mut table), answer(0, 2));
+    let mut other = [7; 8];
+    assert_eq!(library::read_table(&token, &mut other), answer(0, 2));
+    assert_eq!(other, table);
 }
 
 #[test]

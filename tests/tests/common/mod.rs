@@ -1,137 +1,62 @@
-//! Tokens written out by hand, for several tests.
-#![allow(dead_code)]
+//! What several tests share: samples, the readings side by side, tallies.
+#![allow(dead_code, unused_imports)]
 
-use trusted_block_tests::reader::Answer;
+use trusted_block_tests::fast::{fast_fill, fast_read};
+use trusted_block_tests::library;
+use trusted_block_tests::reader::{read_answer, read_table, Answer};
+pub use trusted_block_tests::samples::*;
 
-pub const RULE_ID: &[u8; 8] = b"A       ";
+const UNTOUCHED: u32 = 0xDEAD_BEEF;
 
 pub fn answer(number: u32, second: u32) -> Answer {
     Answer { number, second }
 }
 
-/// The smallest token, called T in document 01.
-pub fn smallest_token() -> Vec<u8> {
-    let mut token = vec![0x1E, 0x00, 0x00, 0x50, 0, 0, 0, 0];
-    token.extend([0x14, 0x00, 0x00, 0x48, 0, 0, 0, 0, 0, 0]);
-    token.extend([0x00, 0x01, 0x00, 0x3E, 0x00, 0x00]);
-    token.extend([0; 56]);
-    token
+/// How many tokens the generated tests take together.
+pub fn count_of_tokens() -> usize {
+    let asked = std::env::var("TRUSTED_BLOCK_TOKENS").ok();
+    let count = asked.map_or(300_000, |text| text.parse().expect("a count of tokens"));
+    count.max(20_000)
 }
 
-/// A header in front of sections.
-pub fn token_of(sections: &[Vec<u8>]) -> Vec<u8> {
-    let mut token = vec![0x1E, 0, 0, 0, 0, 0, 0, 0];
-    token.extend(sections.concat());
-    in_line(token)
+/// How often each number was the answer.
+#[derive(Default, Debug)]
+pub struct Tally {
+    pub numbers: [usize; 26],
 }
 
-/// The token with its header's length brought in line.
-pub fn in_line(mut token: Vec<u8>) -> Vec<u8> {
-    let length = token.len() as u16;
-    token[2..4].copy_from_slice(&length.to_be_bytes());
-    token
+impl Tally {
+    pub fn add(&mut self, answer: Answer) {
+        self.numbers[answer.number as usize] += 1;
+    }
+
+    pub fn assert_reached(&self, numbers: impl Iterator<Item = usize>, least: usize) {
+        for number in numbers {
+            let count = self.numbers[number];
+            assert!(count >= least, "{number}: {count} of {:?}", self.numbers);
+        }
+    }
 }
 
-/// The smallest token with sections after it.
-pub fn smallest_with(sections: &[Vec<u8>]) -> Vec<u8> {
-    let mut token = smallest_token();
-    token.extend(sections.concat());
-    in_line(token)
-}
-
-/// A section: id, version 0, length, then the rest.
-pub fn section(id: u8, rest: &[&[u8]]) -> Vec<u8> {
-    let rest = rest.concat();
-    let length = (4 + rest.len() as u16).to_be_bytes();
-    let mut bytes = vec![id, 0, length[0], length[1]];
-    bytes.extend(rest);
-    bytes
-}
-
-/// A subsection: tag, length, version 0, then the rest.
-pub fn subsection(tag: u16, rest: &[&[u8]]) -> Vec<u8> {
-    let rest = rest.concat();
-    let mut bytes = tag.to_be_bytes().to_vec();
-    bytes.extend((5 + rest.len() as u16).to_be_bytes());
-    bytes.push(0);
-    bytes.extend(rest);
-    bytes
-}
-
-/// A rule that generates a key, with subsections.
-pub fn rule(rule_id: &[u8; 8], subsections: &[Vec<u8>]) -> Vec<u8> {
-    let fixed = [0, 0, 0, 0, 8, 0, 0, 0];
-    section(0x12, &[rule_id, &fixed, &subsections.concat()])
-}
-
-/// A rule that exports a key, with subsections.
-pub fn export_rule(rule_id: &[u8; 8], generated: u8, subsections: &[Vec<u8>]) -> Vec<u8> {
-    let fixed = [0, 0, 0, 1, generated, 0, 1, 0];
-    section(0x12, &[rule_id, &fixed, &subsections.concat()])
-}
-
-/// A 0003 with these limits, no variant and no CV.
-pub fn export_parameters(minimum: u8, maximum: u8) -> Vec<u8> {
-    subsection(3, &[&[0, 0, 0, minimum, maximum, 0, 0]])
-}
-
-/// A 0005 with a mask of this many bytes and no label template.
-pub fn token_parameters(mask: u8) -> Vec<u8> {
-    let masks = vec![0x55; 2 * usize::from(mask)];
-    subsection(5, &[&[0, 0, 0, mask], &masks, &[0]])
-}
-
-/// Section 14 with its protection and more subsections.
-pub fn information(subsections: &[Vec<u8>]) -> Vec<u8> {
-    section(0x14, &[&[0; 6], &subsections.concat()])
-}
-
-/// 14/0001, all zero.
-pub fn protection() -> Vec<u8> {
-    subsection(1, &[&[0; 57]])
-}
-
-/// 14/0002 with flags 1.
-pub fn dates(activation: [u8; 4], expiration: [u8; 4]) -> Vec<u8> {
-    subsection(2, &[&[0, 0, 1], &activation, &expiration])
-}
-
-/// Section 13.
-pub fn name() -> Vec<u8> {
-    section(0x13, &[&[0xAB; 64]])
-}
-
-/// Section 15 with this many bytes of data.
-pub fn application_data(length: usize) -> Vec<u8> {
-    section(0x15, &[&(length as u16).to_be_bytes(), &vec![0xDA; length]])
-}
-
-/// Section 11 with exponent 3 and a modulus of 512 bits.
-pub fn public_key() -> Vec<u8> {
-    let mut modulus = [0x11; 64];
-    modulus[0] = 0x80;
-    section(
-        0x11,
-        &[&[0, 0, 0, 1, 2, 0, 0, 64], &[3], &modulus, &[0xC0, 0, 0, 0]],
-    )
-}
-
-/// A token with each kind once.
-pub fn token_of_all_kinds() -> Vec<u8> {
-    let parts = [
-        subsection(1, &[&[0, 0, 1, 9]]),
-        subsection(2, &[&[0], RULE_ID]),
-        export_parameters(8, 24),
-        subsection(4, &[&[0], RULE_ID]),
-        token_parameters(16),
-    ];
-    let day = [7, 0xD0, 2, 29];
-    let sections = [
-        application_data(0),
-        export_rule(RULE_ID, 0, &parts),
-        public_key(),
-        information(&[dates(day, day), protection()]),
-        name(),
-    ];
-    token_of(&sections)
+/// Reads by both readers and the library, with and without a table; the
+/// table changes only when the token is accepted, and not past its rows.
+pub fn read_every_way(token: &[u8]) -> Answer {
+    let expected = read_answer(token);
+    assert_eq!(fast_read(token), expected, "{token:02X?}");
+    assert_eq!(library::read(token), expected, "{token:02X?}");
+    let mut table = [UNTOUCHED; 1300];
+    assert_eq!(read_table(token, &mut table), expected);
+    let mut other = [UNTOUCHED; 1300];
+    assert_eq!(fast_fill(token, &mut other), expected);
+    assert_eq!(table, other);
+    let mut other = [UNTOUCHED; 1300];
+    assert_eq!(library::read_table(token, &mut other), expected);
+    assert_eq!(table, other);
+    let written = match expected.number {
+        0 => 4 * expected.second as usize,
+        _ => 0,
+    };
+    assert!(table[..written].iter().all(|value| *value != UNTOUCHED));
+    assert!(table[written..].iter().all(|value| *value == UNTOUCHED));
+    expected
 }

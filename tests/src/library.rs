@@ -1,0 +1,47 @@
+//! The proved library, called as a host program in C calls it.
+
+use crate::reader::Answer;
+
+/// The C calls as they are. Result: 0 or the refusal; `second`: the rows or
+/// the place.
+pub mod calls {
+    extern "C" {
+        pub fn tb_read(token: *const u8, token_len: usize, second: *mut u32) -> u32;
+        pub fn tb_read_table(
+            token: *const u8,
+            token_len: usize,
+            table: *mut u32,
+            table_len: usize,
+            second: *mut u32,
+        ) -> u32;
+    }
+}
+
+/// What `second` holds before a call; no answer gives it.
+const NOT_GIVEN: u32 = u32::MAX;
+
+/// 0 with the count of rows, or the refusal.
+#[inline]
+pub fn read(token: &[u8]) -> Answer {
+    let mut second = NOT_GIVEN;
+    // SAFETY: the pointers are those of live borrows, with their lengths.
+    let number = unsafe { calls::tb_read(token.as_ptr(), token.len(), &mut second) };
+    Answer { number, second }
+}
+
+/// The same, and fills the table with the rows of an accepted token.
+#[inline]
+pub fn read_table(token: &[u8], table: &mut [u32]) -> Answer {
+    let mut second = NOT_GIVEN;
+    // SAFETY: as above, and nothing else holds the table meanwhile.
+    let number = unsafe {
+        calls::tb_read_table(
+            token.as_ptr(),
+            token.len(),
+            table.as_mut_ptr(),
+            table.len(),
+            &mut second,
+        )
+    };
+    Answer { number, second }
+}
