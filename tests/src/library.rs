@@ -14,6 +14,15 @@ pub mod calls {
             table_len: usize,
             second: *mut u32,
         ) -> u32;
+        pub fn tb_view(
+            token: *const u8,
+            token_len: usize,
+            row: u32,
+            field: u32,
+            second: *mut u32,
+            offset: *mut u32,
+            length: *mut u32,
+        ) -> u32;
     }
 }
 
@@ -44,4 +53,28 @@ pub fn read_table(token: &[u8], table: &mut [u32]) -> Answer {
         )
     };
     Answer { number, second }
+}
+
+/// Offset and length in the token of a field, by row and field number. On
+/// refusal both must be 0.
+pub fn view(token: &[u8], row: u32, field: u32) -> Result<(u32, u32), Answer> {
+    let (mut second, mut offset, mut length) = (NOT_GIVEN, NOT_GIVEN, NOT_GIVEN);
+    // SAFETY: as above; the three numbers are apart.
+    let number = unsafe {
+        calls::tb_view(
+            token.as_ptr(),
+            token.len(),
+            row,
+            field,
+            &mut second,
+            &mut offset,
+            &mut length,
+        )
+    };
+    if number == 0 {
+        assert_eq!(second, 0);
+        return Ok((offset, length));
+    }
+    assert_eq!((offset, length), (0, 0));
+    Err(Answer { number, second })
 }
