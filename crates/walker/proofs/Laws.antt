@@ -1,11 +1,11 @@
 -- Laws of the steps behind one another.
-use mathlib.Core.Path.{_≡_, refl, sym, ap, _∙_}
+use mathlib.Core.Path.{_≡_, refl, ap, _∙_}
 use Prim.Native.Nat.{ℕ, zero, suc, _-_, _<_}
 use mathlib.Core.List.{List, [], _∷_}
 use native.Mathlib.Omega.{arith}
 use native.Mathlib.Numerals.{sub-one}
 use types.Run.{OneOf}
-use mathlib.Core.Logic.{_⊎_, inl, inr}
+use mathlib.Core.Logic.{inl, inr}
 use denote.Enum.Declared.{tagOf}
 use Rattle.format.specs.Views.{stepAt, placeBehind}
 use Rattle.format.specs.declared.Step.{Step}

@@ -29,7 +29,7 @@ use denote.Plain.{uint-makes, uint-lawful}
 use denote.Builtin.{u8, usize}
 use denote.Ref.{RefT, NamedLft, MutRef, ptr-vals, mut-tells, now}
 use denote.Signature.{Slot, plain, namedLft}
-use denote.Slice.{sliceVal, ShrSlice, shr-slice-copy}
+use denote.Slice.{sliceVal, ShrSlice}
 use denote.Steps.{opens, closes, owned, peeks, heard, nothing, only}
 use denote.Enum.Laws as EL
 use denote.Struct.Laws as LL
