@@ -1,0 +1,111 @@
+-- What a reader of held bytes gives, followed from its start by the contracts of `start` and `next`: the steps of the
+-- walk, which over a legal token are its rows in order and then the end. Assumes nothing.
+use mathlib.Core.Path.{_≡_, refl, sym, ap, _∙_}
+use mathlib.Core.List.{List, [], _∷_}
+use mathlib.Core.Option.{some}
+use mathlib.Core.Bool.{true}
+use Prim.Native.Nat.{ℕ, zero, suc, _+_, _≤_}
+use lib.ListN.{length, getElem?}
+use native.Mathlib.Omega.{arith}
+use denote.Ref.{RefT, now}
+use Rattle.format.specs.Legal.{Legal}
+use Rattle.format.specs.Parts.{size}
+use Rattle.format.specs.Reading.{Fault, refused, reading}
+use Rattle.format.specs.Table.{Placed, placed}
+use Rattle.format.specs.Views.{stepAt, placeBehind}
+use Rattle.format.specs.declared.Step.{Step}
+use Rattle.format.specs.declared.Step.the-variants.{Record, End, Stopped}
+use Rattle.format.proofs.Tiling.{IsRow}
+use Rattle.format.proofs.Walking.{walkPlace, walk-legal, first-place, step-next, step-at-row, step-at-end, step-refused}
+use Rattle.walker.specs.Walking.{stepBehind}
+use Rattle.walker.specs.declared.Walker.{Walker}
+
+-- ---- the places that the steps lead to
+
+-- The step behind n steps is the one at the place that they lead to.
+behind-at : (bs : List ℕ) (at n : ℕ) → stepBehind bs at n ≡ stepAt bs (walkPlace n bs at)
+unfolding stepBehind
+behind-at bs at zero = refl
+behind-at bs at (suc n) = behind-at bs (placeBehind at (stepAt bs at)) n
+
+-- The last of n + 1 steps is the one behind the first n.
+place-last : (bs : List ℕ) (at n : ℕ) → walkPlace (suc n) bs at ≡ placeBehind (walkPlace n bs at) (stepAt bs (walkPlace n bs at))
+place-last bs at zero = refl
+place-last bs at (suc n) = place-last bs (placeBehind at (stepAt bs at)) n
+
+-- Before an element of a list comes another.
+one-before : (xs : List Placed) (k : ℕ) (y : Placed) → getElem? xs (suc k) ≡ some y → (x : Placed) × (getElem? xs k ≡ some x)
+one-before [] k y e = absurd (let z : _≡_ {A = ℕ} 0 1 = cc in omega arith)
+one-before (x ∷ xs) zero y e = (x, refl)
+one-before (x ∷ xs) (suc k) y e = one-before xs k y e
+
+-- As many steps as there are rows before a row lead to its place.
+place-of-row : (bs : List ℕ) (l : Legal bs) (k : ℕ) (x : Placed) → IsRow bs l k x → walkPlace k bs 8 ≡ x .row .offset
+place-of-row bs l zero x e = sym (first-place bs l x e)
+place-of-row bs l (suc k) y f =
+    let b = one-before (placed 8 0 0 (l .parts)) k y f in
+    let p = place-of-row bs l k (b .0) (b .1) in
+    place-last bs 8 k
+    ∙ ap (λ (a : ℕ). placeBehind a (stepAt bs a)) p
+    ∙ ap (placeBehind (b .0 .row .offset)) (step-next bs l k (b .0) y (b .1) f)
+
+-- ---- the steps behind one another
+
+-- Behind as many steps as there are rows before it comes each row of a legal token, with the place where its part ends.
+pub behind-row : (bs : List ℕ) (l : Legal bs) (k : ℕ) (x : Placed) → IsRow bs l k x
+    → stepBehind bs 8 k ≡ Record (x .row) (x .row .offset + size (x .part))
+behind-row bs l k x e = behind-at bs 8 k ∙ ap (stepAt bs) (place-of-row bs l k x e) ∙ step-at-row bs l k x e
+
+-- Behind all rows comes the end, and it stays.
+pub behind-all : (bs : List ℕ) (l : Legal bs) (k : ℕ) → length (l .parts) ≤ k → stepBehind bs 8 k ≡ End
+behind-all bs l k h = behind-at bs 8 k ∙ ap (stepAt bs) (walk-legal bs l k h .1) ∙ step-at-end bs l
+
+-- An illegal token gives the reading's refusal at once, and it stays.
+pub behind-refused : (bs : List ℕ) (f : Fault) (k : ℕ) → reading true bs ≡ refused f
+    → stepBehind bs 8 k ≡ Stopped (f .number) (f .part)
+behind-refused bs f k e = behind-at bs 8 k ∙ step-refused bs f (walkPlace k bs 8) e
+
+-- ---- the reader of held bytes
+
+-- A reader as `start` makes it of a token, and as each call of `next` leaves it, with the steps that the calls give.
+abbrev pub Followed : RefT (List ℕ) → (ℕ → Walker) → (ℕ → Step) → Type 0
+Followed token w s =
+    ((w 0 .token ≡ token) × (w 0 .place ≡ 8))
+    × ((k : ℕ)
+    → (s k ≡ stepAt (now (w k .token)) (w k .place))
+    × ((w (suc k) .token ≡ w k .token) × (w (suc k) .place ≡ placeBehind (w k .place) (s k))))
+
+-- The reader keeps the token, and its place is the one that the steps lead to.
+kept : (token : RefT (List ℕ)) (w : ℕ → Walker) (s : ℕ → Step) → Followed token w s → (k : ℕ)
+    → (w k .token ≡ token) × (w k .place ≡ walkPlace k (now token) 8)
+kept token w s f zero = f .0
+kept token w s f (suc k) =
+    let i = kept token w s f k in
+    let n = f .1 k in
+    let e : s k ≡ stepAt (now token) (walkPlace k (now token) 8) =
+    n .0 ∙ ap (λ (t : RefT (List ℕ)). stepAt (now t) (w k .place)) (i .0) ∙ ap (stepAt (now token)) (i .1) in
+    (n .1 .0 ∙ i .0, n .1 .1 ∙ ap (λ (a : ℕ). placeBehind a (s k)) (i .1) ∙ ap (placeBehind (walkPlace k (now token) 8)) e ∙ sym (place-last (now token) 8 k))
+
+-- "The same records in the same order": the reader's step k is the walk's, which is what `nth_row` gives.
+pub same-steps : (token : RefT (List ℕ)) (w : ℕ → Walker) (s : ℕ → Step) → Followed token w s → (k : ℕ)
+    → s k ≡ stepBehind (now token) 8 k
+same-steps token w s f k =
+    let i = kept token w s f k in
+    f .1 k .0
+    ∙ ap (λ (t : RefT (List ℕ)). stepAt (now t) (w k .place)) (i .0)
+    ∙ ap (stepAt (now token)) (i .1)
+    ∙ sym (behind-at (now token) 8 k)
+
+-- Over a legal token the reader gives its rows in order, and then the end.
+pub same-rows : (token : RefT (List ℕ)) (w : ℕ → Walker) (s : ℕ → Step) → Followed token w s → (l : Legal (now token))
+    → ((k : ℕ) (x : Placed) → IsRow (now token) l k x → s k ≡ Record (x .row) (x .row .offset + size (x .part)))
+    × ((k : ℕ) → length (l .parts) ≤ k → s k ≡ End)
+same-rows token w s f l = (
+  λ k x e. same-steps token w s f k ∙ behind-row (now token) l k x e,
+  λ k h. same-steps token w s f k ∙ behind-all (now token) l k h,
+)
+
+-- Over an illegal token each of its steps is the reading's refusal.
+pub same-refusal : (token : RefT (List ℕ)) (w : ℕ → Walker) (s : ℕ → Step) → Followed token w s → (g : Fault) (k : ℕ)
+    → reading true (now token) ≡ refused g → s k ≡ Stopped (g .number) (g .part)
+same-refusal token w s f g k e = same-steps token w s f k ∙ behind-refused (now token) g k e

@@ -1,0 +1,26 @@
+-- A record's next place, else the place itself.
+use Rattle.walker.proofs.Laws.{stays}
+use borrow.Author.Needs.{needs}
+use Rattle.walker.proofs.place_behind.Statement.{statement}
+use Rattle.walker.proofs.place_behind.Tie as tie
+use Rattle.walker.proofs.place_behind.Reads as reads
+use Rattle.walker.proofs.place_behind.Lts as lts
+
+-- src/lib.rt:16:25
+enum-known-s : tie.Need-enum-known-s
+enum-known-s c = search needs
+
+-- src/lib.rt:17:9
+returns : tie.Need-returns
+returns c = stays _ (c .before .args .s) (c .match .keys2)
+
+-- src/lib.rt:19:5
+cast-result : tie.Need-cast-result
+cast-result c = search needs
+
+-- src/lib.rt:13:1
+returns-2 : tie.Need-returns-2
+returns-2 c = search needs
+
+pub place-behind-spec : {M : Type 1} → statement M
+place-behind-spec = tie.close (tie.spec enum-known-s returns cast-result returns-2)

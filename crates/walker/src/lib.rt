@@ -1,0 +1,55 @@
+// The reader that keeps hold of a token's bytes and its place in them. Any bytes may be walked.
+ghost use mathlib.Core.Path.{_≡_};
+ghost use Rattle.format.specs.Views.{stepAt, placeBehind};
+ghost use Rattle.walker.specs.Walking.{stepBehind};
+use format::Step;
+
+pub struct Walker<'a> {
+    token: &'a [u8],
+    place: usize,
+}
+
+// The place that a step leads to: the next row's, and at the end or a refusal its own.
+pub fn place_behind(s: Step, place: usize) -> usize
+    ensures { λ r. ⌜ r ≡ placeBehind place s ⌝ }
+{
+    let Step::Record(_, next) = s else {
+        return place;
+    };
+    next as usize
+}
+
+// The reader at the first row's place.
+pub fn start<'a>(token: &'a [u8]) -> Walker<'a>
+    ensures { λ w. ⌜ (w .token ≡ token .entry) × (w .place ≡ 8) ⌝ }
+{
+    Walker { token, place: 8 }
+}
+
+// The step at the reader's place. On a record the reader moves to the next row's place, else it stays.
+pub fn next<'s, 'a>(w: &'s mut Walker<'a>) -> Step
+    ensures { λ s. ⌜ (s ≡ stepAt (now (now (w .entry) .token)) (now (w .entry) .place)) × ((now (w .exit) .token ≡ now (w .entry) .token) × (now (w .exit) .place ≡ placeBehind (now (w .entry) .place) s)) ⌝ }
+{
+    let token = w.token;
+    let place = w.place;
+    let s = lookup::step(token, place);
+    w.place = place_behind(s, place);
+    s
+}
+
+// The step behind n steps from the first row's place: row n, or what stopped the walk before it.
+pub fn nth_row(token: &[u8], n: u32) -> Step
+    ensures { λ r. ⌜ r ≡ stepBehind (now (token .entry)) 8 n ⌝ }
+{
+    let mut place: usize = 8;
+    let mut left = n;
+    while 0 < left {
+        let s = lookup::step(token, place);
+        let Step::Record(_, next) = s else {
+            return s;
+        };
+        place = next as usize;
+        left = left - 1;
+    }
+    lookup::step(token, place)
+}
