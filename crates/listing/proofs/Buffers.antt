@@ -11,7 +11,9 @@ use lib.ListN.{length, take, drop}
 use lib.Seq.{sets, sets-eq, take-at}
 use borrow.Author.Tests.{le-leb, lt-leb}
 use Rattle.listing.specs.declared.LineAnswer.the-variants.{Length, TooSmall}
-use Rattle.listing.specs.Buffers.{Stored, lineAnswer, lineIn}
+use Rattle.storing.specs.Storing.{Stored}
+use Rattle.storing.proofs.Stores.{sets-front}
+use Rattle.listing.specs.Buffers.{lineAnswer, lineIn}
 use Rattle.listing.proofs.Digits.{below-or-not}
 
 -- a test that holds picks the first of two, one that does not the second
@@ -20,18 +22,6 @@ first-of t x y e = rw e
 
 pub second-of : {A : Type 0} (t : Bool) (x y : A) → t ≡ false → elim t [ true ↦ x | false ↦ y ] ≡ y
 second-of t x y e = rw e
-
--- a text stored from the start on stands behind nothing and before the bytes that were there
-sets-front : (old line : List ℕ) → length line ≤ length old → sets old 0 line ≡ line ++ drop (length line) old
-sets-front old line h =
-    let z : 0 + length line ≡ length line = zero-add (length line) in
-    sets-eq line old 0 (omega arith) ∙ ap (λ (k : ℕ). line ++ drop k old) z
-
--- the stored line is as many of the first bytes as it is long
-pub line-cut : (old line new : List ℕ) (n : ℕ) → Stored old 0 line new n → n ≤ length old → take n new ≡ line
-line-cut old line new n s h =
-    let e : length line ≡ n = sym (s .place ∙ zero-add (length line)) in
-    ap (take n) (s .bytes ∙ sets-front old line (omega arith)) ∙ take-at line (drop (length line) old) n e
 
 -- the buffer has no room for the line, or it has
 pub no-room : (line old : List ℕ) → length old < length line

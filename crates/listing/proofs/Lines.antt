@@ -8,10 +8,10 @@ use Rattle.format.specs.Lines.{text, decimal, hexadecimal, idText, tagText, fir
 use Rattle.format.specs.declared.Answer.the-variants.{Accepted, Refused}
 use Rattle.format.specs.declared.Row.{Row}
 use Rattle.listing.specs.Numerals.{numeral}
-use Rattle.listing.specs.Buffers.{Stored}
+use Rattle.storing.specs.Storing.{Stored}
 use Rattle.listing.proofs.Buffers.{second-of}
 use Rattle.listing.proofs.Numerals.{decimal-is, hexadecimal-is}
-use Rattle.listing.proofs.Stores.{stored-as, stored-then}
+use Rattle.storing.proofs.Stores.{stored-as, stored-then}
 
 -- columns with a space between them and a newline behind the last
 unfoldable pub columns : List (List ℕ) → List ℕ

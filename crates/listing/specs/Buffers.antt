@@ -1,11 +1,9 @@
 -- A line at the start of a lent buffer: what the call answers, and what the buffer then holds.
-use mathlib.Core.Path.{_≡_}
 use mathlib.Core.Bool.{true, false}
 use mathlib.Core.List.{List, _++_}
-use Prim.Native.Nat.{ℕ, _+_}
+use Prim.Native.Nat.{ℕ}
 use lib.Dec.{leb}
 use lib.ListN.{length, drop}
-use lib.Seq.{sets}
 use Rattle.listing.specs.declared.LineAnswer.{LineAnswer}
 use Rattle.listing.specs.declared.LineAnswer.the-variants.{Length, TooSmall}
 
@@ -16,8 +14,3 @@ lineAnswer line old = elim (leb (length line) (length old)) [ true ↦ Length (l
 -- the line and, behind it, the bytes that were there; all of the old bytes where the buffer is too small
 unfoldable pub lineIn : List ℕ → List ℕ → List ℕ
 lineIn line old = elim (leb (length line) (length old)) [ true ↦ line ++ drop (length line) old | false ↦ old ]
-
--- a text was stored at the place at: what was old is now new, and next is the place after the text
-pub record Stored (old : List ℕ) (at : ℕ) (text : List ℕ) (new : List ℕ) (next : ℕ) : Type 0 where
-  pub bytes : new ≡ sets old at text
-  pub place : next ≡ at + length text

@@ -6,13 +6,14 @@ ghost use mathlib.Core.Path.{_≡_};
 ghost use Prim.Native.Nat.{_≤_};
 ghost use lib.ListN.{length};
 ghost use Rattle.format.specs.Lines.{firstLine, rowLine};
-ghost use Rattle.listing.specs.Buffers.{Stored, lineAnswer, lineIn};
+ghost use Rattle.listing.specs.Buffers.{lineAnswer, lineIn};
+ghost use Rattle.storing.specs.Storing.{Stored};
 use format::Answer;
 use format::Row;
+use storing::put;
 use texts::put_id;
 use texts::put_number;
 use texts::put_tag;
-use texts::put_text;
 
 // Enough bytes for any line.
 pub const LINE: usize = 96;
@@ -31,17 +32,17 @@ fn put_first(line: &mut [u8], id: u8, bytes: u32, answer: Answer) -> usize
 {
     match answer {
         Answer::Accepted(rows) => {
-            let a = put_text(line, 0, b"token ");
+            let a = put(line, 0, b"token ");
             let b = put_id(line, a, id);
             let c = put_number(line, b, bytes, 10, 1, b' ');
-            let d = put_text(line, c, b"bytes ");
+            let d = put(line, c, b"bytes ");
             let e = put_number(line, d, rows, 10, 1, b' ');
-            put_text(line, e, b"rows\n")
+            put(line, e, b"rows\n")
         }
         Answer::Refused(number, place) => {
-            let a = put_text(line, 0, b"refused ");
+            let a = put(line, 0, b"refused ");
             let b = put_number(line, a, number, 10, 1, b' ');
-            let c = put_text(line, b, b"at ");
+            let c = put(line, b, b"at ");
             put_number(line, c, place, 10, 1, b'\n')
         }
     }
@@ -69,7 +70,7 @@ fn place_line(out: &mut [u8], line: &[u8]) -> LineAnswer
     if out.len() < line.len() {
         return LineAnswer::TooSmall;
     }
-    LineAnswer::Length(put_text(out, 0, line))
+    LineAnswer::Length(put(out, 0, line))
 }
 
 // The first line of a listing, from the token's id, its length and the reading's answer.

@@ -5,20 +5,8 @@ ghost use Prim.Native.Nat.{_+_, _<_, _≤_, max};
 ghost use lib.ListN.{length};
 ghost use Rattle.format.specs.Lines.{digitText, idText, tagText};
 ghost use Rattle.listing.specs.Numerals.{digitCount, numeral};
-ghost use Rattle.listing.specs.Buffers.{Stored};
-
-// The bytes of a text, from the place `at` on.
-pub(crate) fn put_text(line: &mut [u8], at: usize, text: &[u8]) -> usize
-    requires { ⌜ at + length (now text) ≤ length (now line) ⌝ }
-    ensures { λ r. ⌜ Stored (now (line .entry)) at (now (text .entry)) (now (line .exit)) r ⌝ }
-{
-    let mut i = 0;
-    while i < text.len() {
-        line[at + i] = text[i];
-        i += 1;
-    }
-    at + i
-}
+ghost use Rattle.storing.specs.Storing.{Stored};
+use storing::put;
 
 // A digit's character, 0 to 9 and A to F.
 fn digit_text(d: u32) -> u8
@@ -90,9 +78,9 @@ pub(crate) fn put_id(line: &mut [u8], at: usize, id: u8) -> usize
     ensures short { λ r. ⌜ r ≤ at + 9 ⌝ }
 {
     match id {
-        0x1E => put_text(line, at, b"external "),
-        0x1F => put_text(line, at, b"internal "),
-        _ => put_text(line, at, b"unknown "),
+        0x1E => put(line, at, b"external "),
+        0x1F => put(line, at, b"internal "),
+        _ => put(line, at, b"unknown "),
     }
 }
 
@@ -103,7 +91,7 @@ pub(crate) fn put_tag(line: &mut [u8], at: usize, tag: u32) -> usize
     ensures short { λ r. ⌜ r ≤ at + 11 ⌝ }
 {
     if tag == 0 {
-        return put_text(line, at, b"- ");
+        return put(line, at, b"- ");
     }
     put_number(line, at, tag, 16, 4, b' ')
 }

@@ -12,8 +12,8 @@ returns c =
     let r = no-room (a .line .now) (a .out .now) (omega arith) in
     (sym (r .0), sym (r .1))
 
-put-text-requires : tie.Need-put-text-requires
-put-text-requires c κs = search needs
+put-requires : tie.Need-put-requires
+put-requires c κs = search needs
 
 same-length : tie.Need-same-length
 same-length c = search needs
@@ -22,8 +22,8 @@ returns-2 : tie.Need-returns-2
 returns-2 c =
     let b = c .before .before .before .before in
     let a = b .before .before .before .args in
-    let p = c .before .before .put-text in
+    let p = c .before .before .put in
     line-placed (a .line .now) (a .out .now) _ (p .result) (omega (arith, b .if1 .left)) (p .ensures)
 
 pub place-line-spec : {M : Type 1} → statement M
-place-line-spec = tie.close (tie.spec returns put-text-requires same-length returns-2)
+place-line-spec = tie.close (tie.spec returns put-requires same-length returns-2)

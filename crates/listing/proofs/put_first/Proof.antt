@@ -2,7 +2,7 @@
 use mathlib.Core.Path.{sym, ap, _∙_}
 use borrow.Author.Needs.{needs}
 use Rattle.format.specs.Lines.{text, firstLine}
-use Rattle.listing.proofs.Stores.{stored-as}
+use Rattle.storing.proofs.Stores.{stored-as}
 use Rattle.listing.proofs.Lines.{accepted-is, refused-is, column-stored, last-stored}
 use Rattle.listing.proofs.put_first.Statement.{statement}
 use Rattle.listing.proofs.put_first.Tie as tie
@@ -10,11 +10,11 @@ use Rattle.listing.proofs.put_first.Tie as tie
 enum-known-answer : tie.Need-enum-known-answer
 enum-known-answer c = search needs
 
-slice-aggregate-put-text : tie.Need-slice-aggregate-put-text
-slice-aggregate-put-text c = search needs
+slice-aggregate-put : tie.Need-slice-aggregate-put
+slice-aggregate-put c = search needs
 
-put-text-requires : tie.Need-put-text-requires
-put-text-requires c κs = search needs
+put-requires : tie.Need-put-requires
+put-requires c κs = search needs
 
 put-id-requires : tie.Need-put-id-requires
 put-id-requires c κs = search needs
@@ -22,38 +22,38 @@ put-id-requires c κs = search needs
 put-number-requires : tie.Need-put-number-requires
 put-number-requires c κs = search needs
 
-slice-aggregate-put-text-2 : tie.Need-slice-aggregate-put-text-2
-slice-aggregate-put-text-2 c = search needs
+slice-aggregate-put-2 : tie.Need-slice-aggregate-put-2
+slice-aggregate-put-2 c = search needs
 
-put-text-requires-2 : tie.Need-put-text-requires-2
-put-text-requires-2 c κs = search needs
+put-requires-2 : tie.Need-put-requires-2
+put-requires-2 c κs = search needs
 
 put-number-requires-2 : tie.Need-put-number-requires-2
 put-number-requires-2 c κs = search needs
 
-slice-aggregate-put-text-3 : tie.Need-slice-aggregate-put-text-3
-slice-aggregate-put-text-3 c = search needs
+slice-aggregate-put-3 : tie.Need-slice-aggregate-put-3
+slice-aggregate-put-3 c = search needs
 
-put-text-requires-3 : tie.Need-put-text-requires-3
-put-text-requires-3 c κs = search needs
+put-requires-3 : tie.Need-put-requires-3
+put-requires-3 c κs = search needs
 
 enum-known-answer-2 : tie.Need-enum-known-answer-2
 enum-known-answer-2 c = search needs
 
-slice-aggregate-put-text-4 : tie.Need-slice-aggregate-put-text-4
-slice-aggregate-put-text-4 c = search needs
+slice-aggregate-put-4 : tie.Need-slice-aggregate-put-4
+slice-aggregate-put-4 c = search needs
 
-put-text-requires-4 : tie.Need-put-text-requires-4
-put-text-requires-4 c κs = search needs
+put-requires-4 : tie.Need-put-requires-4
+put-requires-4 c κs = search needs
 
 put-number-requires-3 : tie.Need-put-number-requires-3
 put-number-requires-3 c κs = search needs
 
-slice-aggregate-put-text-5 : tie.Need-slice-aggregate-put-text-5
-slice-aggregate-put-text-5 c = search needs
+slice-aggregate-put-5 : tie.Need-slice-aggregate-put-5
+slice-aggregate-put-5 c = search needs
 
-put-text-requires-5 : tie.Need-put-text-requires-5
-put-text-requires-5 c κs = search needs
+put-requires-5 : tie.Need-put-requires-5
+put-requires-5 c κs = search needs
 
 put-number-requires-4 : tie.Need-put-number-requires-4
 put-number-requires-4 c κs = search needs
@@ -73,11 +73,11 @@ returns c =
     let s = m .before .before .before in
     let a = s .args in (
       stored-as (sym (ap (firstLine (a .id) (a .bytes)) (m .answer .given .1) ∙ accepted-is (a .id) (a .bytes) _))
-          (column-stored (text "token") _ _ (t₁ .put-text .ensures)
+          (column-stored (text "token") _ _ (t₁ .put .ensures)
           (column-stored _ _ _ (i .put-id .ensures .0)
           (column-stored _ _ _ (n₁ .put-number .ensures .0)
-          (column-stored (text "bytes") _ _ (t₂ .put-text2 .ensures)
-          (column-stored _ _ _ (n₂ .put-number2 .ensures .0) (last-stored (text "rows") (t₃ .put-text3 .ensures))))))),
+          (column-stored (text "bytes") _ _ (t₂ .put2 .ensures)
+          (column-stored _ _ _ (n₂ .put-number2 .ensures .0) (last-stored (text "rows") (t₃ .put3 .ensures))))))),
       search needs,
     )
 
@@ -94,9 +94,9 @@ returns-2 c =
     let s = m .before .before .before in
     let a = s .args in (
       stored-as (sym (ap (firstLine (a .id) (a .bytes)) (m .answer2 .given .1) ∙ refused-is (a .id) (a .bytes) _ _))
-          (column-stored (text "refused") _ _ (t₁ .put-text4 .ensures)
+          (column-stored (text "refused") _ _ (t₁ .put4 .ensures)
           (column-stored _ _ _ (n₁ .put-number3 .ensures .0)
-          (column-stored (text "at") _ _ (t₂ .put-text5 .ensures) (last-stored _ (n₂ .put-number4 .ensures .0))))),
+          (column-stored (text "at") _ _ (t₂ .put5 .ensures) (last-stored _ (n₂ .put-number4 .ensures .0))))),
       search needs,
     )
 
@@ -105,21 +105,21 @@ put-first-spec =
     tie.close
     (tie.spec
     enum-known-answer
-    slice-aggregate-put-text
-    put-text-requires
+    slice-aggregate-put
+    put-requires
     put-id-requires
     put-number-requires
-    slice-aggregate-put-text-2
-    put-text-requires-2
+    slice-aggregate-put-2
+    put-requires-2
     put-number-requires-2
-    slice-aggregate-put-text-3
-    put-text-requires-3
+    slice-aggregate-put-3
+    put-requires-3
     enum-known-answer-2
-    slice-aggregate-put-text-4
-    put-text-requires-4
+    slice-aggregate-put-4
+    put-requires-4
     put-number-requires-3
-    slice-aggregate-put-text-5
-    put-text-requires-5
+    slice-aggregate-put-5
+    put-requires-5
     put-number-requires-4
     same-length
     returns

@@ -6,7 +6,7 @@ use native.Mathlib.Omega.{arith}
 use lib.Seq.{length-take-le}
 use borrow.Author.Needs.{needs}
 use Rattle.listing.specs.Buffers.{lineAnswer, lineIn}
-use Rattle.listing.proofs.Buffers.{line-cut}
+use Rattle.storing.proofs.Stores.{stored-cut}
 use Rattle.listing.proofs.row_line.Statement.{statement}
 use Rattle.listing.proofs.row_line.Tie as tie
 
@@ -36,7 +36,7 @@ returns : tie.Need-returns
 returns c =
     let p = c .before .before .before .before .before .before .put-row in
     let out = c .before .before .before .before .before .before .before .before .before .args .out .now in
-    let e = line-cut _ _ (p .last .0) (p .result) (p .ensures .0) (p .ensures .1) in (
+    let e = stored-cut _ _ (p .last .0) (p .result) (p .ensures .0) (p .ensures .1) in (
       c .before .before .place-line .ensures .0 ∙ ap (λ (l : List ℕ). lineAnswer l out) e,
       c .before .before .place-line .ensures .1 ∙ ap (λ (l : List ℕ). lineIn l out) e,
     )

@@ -8,9 +8,10 @@ use lib.Seq.{sets}
 use lib.ListN.{length, length-set}
 use borrow.Author.Needs.{needs}
 use Rattle.format.specs.Lines.{digitText}
-use Rattle.listing.specs.Buffers.{Stored}
+use Rattle.storing.specs.Storing.{Stored}
 use Rattle.listing.specs.Numerals.{digitCount, numeral}
-use Rattle.listing.proofs.Stores.{stored-then, byte-stored, digit-turn, digits-end}
+use Rattle.storing.proofs.Stores.{stored-then, byte-stored}
+use Rattle.listing.proofs.Stores.{digit-turn, digits-end}
 use Rattle.listing.proofs.Numerals.{numeral-last, numeral-length}
 use Rattle.listing.proofs.Digits.{lastDigits}
 use Rattle.listing.proofs.texts.put_number.Statement.{statement}

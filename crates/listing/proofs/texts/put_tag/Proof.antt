@@ -4,16 +4,16 @@ use mathlib.Core.Path.{sym, ap}
 use Prim.Native.Nat.{ℕ}
 use borrow.Author.Needs.{needs}
 use Rattle.format.specs.Lines.{tagText}
-use Rattle.listing.proofs.Stores.{stored-as}
+use Rattle.storing.proofs.Stores.{stored-as}
 use Rattle.listing.proofs.Lines.{tag-is}
 use Rattle.listing.proofs.texts.put_tag.Statement.{statement}
 use Rattle.listing.proofs.texts.put_tag.Tie as tie
 
-slice-aggregate-put-text : tie.Need-slice-aggregate-put-text
-slice-aggregate-put-text c = search needs
+slice-aggregate-put : tie.Need-slice-aggregate-put
+slice-aggregate-put c = search needs
 
-put-text-requires : tie.Need-put-text-requires
-put-text-requires c κs = search needs
+put-requires : tie.Need-put-requires
+put-requires c κs = search needs
 
 same-length : tie.Need-same-length
 same-length c = search needs
@@ -21,7 +21,7 @@ same-length c = search needs
 returns : tie.Need-returns
 returns c =
     let e = c .before .before .before .before .before .if1 .taken in
-    (stored-as (sym (ap (λ (g : ℕ). tagText g ++ (32 ∷ [])) e)) (c .before .before .put-text .ensures), search needs)
+    (stored-as (sym (ap (λ (g : ℕ). tagText g ++ (32 ∷ [])) e)) (c .before .before .put .ensures), search needs)
 
 put-number-requires : tie.Need-put-number-requires
 put-number-requires c κs = search needs
@@ -39,8 +39,8 @@ pub put-tag-spec : {M : Type 1} → statement M
 put-tag-spec =
     tie.close
     (tie.spec
-    slice-aggregate-put-text
-    put-text-requires
+    slice-aggregate-put
+    put-requires
     same-length
     returns
     put-number-requires

@@ -1,4 +1,4 @@
--- The loop of `put_text`: the bytes that are left, stored behind those that are, give the whole text. Assumes nothing.
+-- The loop of `put`: the bytes that are left, stored behind those that are, give the whole text. Assumes nothing.
 use mathlib.Core.Path.{_≡_, refl, sym, ap, _∙_}
 use Prim.Native.Nat.{ℕ, _+_, _-_, _≤_}
 use native.Mathlib.Omega.{arith}
@@ -6,9 +6,9 @@ use native.Mathlib.Nat.{add-zero}
 use lib.Seq.{sets}
 use lib.ListN.{length, drop, length-set}
 use borrow.Author.Needs.{needs}
-use Rattle.listing.proofs.Stores.{text-turn, text-end}
-use Rattle.listing.proofs.texts.put_text.Statement.{statement}
-use Rattle.listing.proofs.texts.put_text.Tie as tie
+use Rattle.storing.proofs.Stores.{text-turn, text-end}
+use Rattle.storing.proofs.put.Statement.{statement}
+use Rattle.storing.proofs.put.Tie as tie
 
 abbrev Inv-loop : tie.InvT-loop
 Inv-loop line₀ at text i₀ line i =
@@ -64,8 +64,8 @@ returns c =
       place = ap (λ (k : ℕ). a .at + k) i;
     }
 
-pub put-text-spec : {M : Type 1} → statement M
-put-text-spec =
+pub put-spec : {M : Type 1} → statement M
+put-spec =
     tie.close
     (tie.spec
     Inv-loop

@@ -1,0 +1,52 @@
+// Internal: bytes stored one behind another in a lent buffer. Each call asks for room, and gives the place behind what it
+// stored.
+ghost use mathlib.Core.Path.{_≡_};
+ghost use mathlib.Core.List.{_∷_, []};
+ghost use Prim.Native.Nat.{_+_, _≤_, _<_};
+ghost use lib.ListN.{length};
+ghost use Rattle.format.specs.Bytes.{bigEndian};
+ghost use Rattle.storing.specs.Storing.{Stored};
+
+// The bytes of a text, from the place `at` on.
+pub fn put(line: &mut [u8], at: usize, text: &[u8]) -> usize
+    requires { ⌜ at + length (now text) ≤ length (now line) ⌝ }
+    ensures { λ r. ⌜ Stored (now (line .entry)) at (now (text .entry)) (now (line .exit)) r ⌝ }
+{
+    let mut i = 0;
+    while i < text.len() {
+        line[at + i] = text[i];
+        i += 1;
+    }
+    at + i
+}
+
+// A number in two bytes, the higher first.
+pub fn put_two(line: &mut [u8], at: usize, n: usize) -> usize
+    requires { ⌜ (at + 2 ≤ length (now line)) × (n < 65536) ⌝ }
+    ensures { λ r. ⌜ Stored (now (line .entry)) at (bigEndian 2 n) (now (line .exit)) r ⌝ }
+{
+    line[at] = (n / 256) as u8;
+    line[at + 1] = (n % 256) as u8;
+    at + 2
+}
+
+// A number in four bytes, the highest first.
+pub fn put_four(line: &mut [u8], at: usize, n: u32) -> usize
+    requires { ⌜ at + 4 ≤ length (now line) ⌝ }
+    ensures { λ r. ⌜ Stored (now (line .entry)) at (bigEndian 4 n) (now (line .exit)) r ⌝ }
+{
+    line[at] = (n / 16777216) as u8;
+    line[at + 1] = (n / 65536 % 256) as u8;
+    line[at + 2] = (n / 256 % 256) as u8;
+    line[at + 3] = (n % 256) as u8;
+    at + 4
+}
+
+// One byte.
+pub fn put_one(line: &mut [u8], at: usize, x: u8) -> usize
+    requires { ⌜ at + 1 ≤ length (now line) ⌝ }
+    ensures { λ r. ⌜ Stored (now (line .entry)) at (x ∷ []) (now (line .exit)) r ⌝ }
+{
+    line[at] = x;
+    at + 1
+}
