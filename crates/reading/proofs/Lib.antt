@@ -5,3 +5,4 @@ pub mod Rules
 pub mod Sections
 pub mod Headers
 pub mod Filled
+pub mod Finishing
