@@ -1,0 +1,4 @@
+pub mod Sections
+pub mod Walk
+pub mod Joining
+pub mod Additions
