@@ -2,13 +2,13 @@
 use mathlib.Core.Path.{_≡_, refl, sym, ap, _∙_, subst}
 use mathlib.Core.Bool.{Bool, true, false, _&&_}
 use mathlib.Core.List.{List, [], _∷_, _++_, append-nil}
-use Prim.Native.Nat.{ℕ, _+_, _≤_, _<_}
+use Prim.Native.Nat.{ℕ, _+_, _%_, _≤_, _<_}
 use native.Mathlib.Nat.{zero-add}
 use native.Mathlib.Omega.{arith}
 use lib.Dec.{eqb, ltb, leb}
 use lib.ListN.{length, take}
 use borrow.Author.Tests.{eq-eqb, ne-eqb, lt-ltb, le-ltb, lt-leb}
-use Rattle.format.specs.Bytes.{Bytes}
+use Rattle.format.specs.Bytes.{Bytes, bigEndian}
 use Rattle.format.specs.Layout.{Fields, fits, write}
 use Rattle.format.specs.Parts.{Kind, layout, isSubsection}
 use Rattle.format.specs.Rules.{Section}
@@ -23,19 +23,19 @@ use Rattle.drafts.proofs.Additions.{section-made}
 
 -- ---- fields that fit
 
--- a field of its fixed length
-pub fixed-fits : (f : List ℕ) (n : ℕ) {b : Bool} → length f ≡ n → b ≡ true → (eqb (length f) n && b) ≡ true
-fixed-fits f n {b} e r = ap (λ (x : Bool). x && b) (eq-eqb (length f) n e) ∙ r
+-- a field of its fixed length leaves it to those behind it
+pub fixed-fits : (f : List ℕ) (n : ℕ) {b v : Bool} → length f ≡ n → b ≡ v → (eqb (length f) n && b) ≡ v
+fixed-fits f n {b} {v} e r = ap (λ (x : Bool). x && b) (eq-eqb (length f) n e) ∙ r
 
--- one of another length
+-- one of another length does not fit
 pub fixed-unfit : (f : List ℕ) (n : ℕ) (b : Bool) → (length f ≡ n → ⊥) → (eqb (length f) n && b) ≡ false
 fixed-unfit f n b e = ap (λ (x : Bool). x && b) (ne-eqb (length f) n e)
 
--- a field whose length its count can state, in as many bytes as m numbers need
-pub count-fits : (f : List ℕ) (m : ℕ) {b : Bool} → length f < m → b ≡ true → (ltb (length f) m && b) ≡ true
-count-fits f m {b} h r = ap (λ (x : Bool). x && b) (lt-ltb (length f) m h) ∙ r
+-- the same of a field whose length its count can state, m being the first number that it can't
+pub count-fits : (f : List ℕ) (m : ℕ) {b v : Bool} → length f < m → b ≡ v → (ltb (length f) m && b) ≡ v
+count-fits f m {b} {v} h r = ap (λ (x : Bool). x && b) (lt-ltb (length f) m h) ∙ r
 
--- one that is too long for its count
+-- and of one that is too long for it
 pub count-unfit : (f : List ℕ) (m : ℕ) (b : Bool) → m ≤ length f → (ltb (length f) m && b) ≡ false
 count-unfit f m b h = ap (λ (x : Bool). x && b) (le-ltb (length f) m h)
 
@@ -44,6 +44,13 @@ count-unfit f m b h = ap (λ (x : Bool). x && b) (le-ltb (length f) m h)
 -- the last of the fields: nothing stands behind it
 pub stored-last : {old new : List ℕ} {at next : ℕ} {xs : List ℕ} → Stored old at xs new next → Stored old at (xs ++ []) new next
 stored-last {old} {new} {at} {next} {xs} s = stored-as (sym (append-nil xs)) s
+
+-- a number below 256 as a field of one byte
+pub one-stored : {old new : List ℕ} {at next x : ℕ} → x < 256 → Stored old at (x ∷ []) new next
+    → Stored old at (bigEndian 1 x) new next
+one-stored {old} {new} {at} {next} {x} h s =
+    let e : x ≡ x % 256 = omega arith in
+    stored-as (ap (λ (y : ℕ). y ∷ []) e) s
 
 -- A section whose fields were stored from the start of an array on, cut out and added.
 pub section-stored : {r : Answer} {e old new : List ℕ} {n : ℕ} (k : Kind) (fs : Fields) (d : List ℕ) (t : ℕ)

@@ -5,7 +5,7 @@ ghost use Prim.Native.Nat.{_≤_, _<_};
 ghost use lib.ListN.{length};
 ghost use Rattle.format.specs.Bytes.{bigEndian};
 ghost use Rattle.format.specs.Parts as Parts;
-ghost use Rattle.format.specs.Writer.{writeAnswer, draftAfter, addition, informationFields};
+ghost use Rattle.format.specs.Writer.{writeAnswer, draftAfter, addition, publicKeyFields, ruleFields, informationFields};
 ghost use Rattle.storing.specs.Storing.{Stored};
 use drafts::add_section;
 use drafts::not_fitting;
@@ -15,6 +15,12 @@ use storing::put_four;
 use storing::put_one;
 use storing::put_two;
 
+// The bytes of the longest token, and what its header leaves of them. A section over ROOM is added as TOKEN bytes of any
+// content: no draft has room for either, and the answer is the same.
+const TOKEN: usize = 3500;
+
+const ROOM: usize = 3492;
+
 // How a section begins: its id, 0, and its length n in two bytes.
 pub(crate) fn section_head(part: &mut [u8], id: u8, n: usize) -> usize
     requires { ⌜ (4 ≤ length (now part)) × (n < 65536) ⌝ }
@@ -23,6 +29,66 @@ pub(crate) fn section_head(part: &mut [u8], id: u8, n: usize) -> usize
     let at = put_one(part, 0, id);
     let next = put_one(part, at, 0);
     put_two(part, next, n)
+}
+
+// Section 11, the public key: the bits of its modulus, its exponent and modulus, and its flags.
+pub fn public_key(
+    draft: &mut [u8],
+    modulus_bits: u16,
+    exponent: &[u8],
+    modulus: &[u8],
+    flags: u32,
+) -> Answer
+    ensures answer { λ r. ⌜ r ≡ writeAnswer (addition Parts.publicKey (publicKeyFields «modulus_bits» (now (exponent .entry)) (now (modulus .entry)) flags) (now (draft .entry))) ⌝ }
+    ensures draft { λ _. ⌜ now (draft .exit) ≡ draftAfter (addition Parts.publicKey (publicKeyFields «modulus_bits» (now (exponent .entry)) (now (modulus .entry)) flags) (now (draft .entry))) (now (draft .entry)) ⌝ }
+{
+    if 65535 < exponent.len() {
+        return not_fitting(draft);
+    }
+    if 65535 < modulus.len() {
+        return not_fitting(draft);
+    }
+    let mut part = [0u8; TOKEN];
+    let n = 16 + exponent.len() + modulus.len();
+    if ROOM < n {
+        return add_section(draft, &part);
+    }
+    let zeros_at = section_head(&mut part, 0x11, n);
+    let exponent_count_at = put_two(&mut part, zeros_at, 0);
+    let bits_at = put_two(&mut part, exponent_count_at, exponent.len());
+    let modulus_count_at = put_two(&mut part, bits_at, modulus_bits as usize);
+    let exponent_at = put_two(&mut part, modulus_count_at, modulus.len());
+    let modulus_at = put(&mut part, exponent_at, exponent);
+    let flags_at = put(&mut part, modulus_at, modulus);
+    let end = put_four(&mut part, flags_at, flags);
+    add_section(draft, &part[..end])
+}
+
+// Section 12, a rule: an id of 8 bytes, and the rule's values. Subsections are added behind it.
+pub fn rule(
+    draft: &mut [u8],
+    rule_id: &[u8],
+    flags: u32,
+    generated_length: u8,
+    key_check: u8,
+    symmetric_format: u8,
+    asymmetric_format: u8,
+) -> Answer
+    ensures answer { λ r. ⌜ r ≡ writeAnswer (addition Parts.rule (ruleFields (now («rule_id» .entry)) flags «generated_length» «key_check» «symmetric_format» «asymmetric_format») (now (draft .entry))) ⌝ }
+    ensures draft { λ _. ⌜ now (draft .exit) ≡ draftAfter (addition Parts.rule (ruleFields (now («rule_id» .entry)) flags «generated_length» «key_check» «symmetric_format» «asymmetric_format») (now (draft .entry))) (now (draft .entry)) ⌝ }
+{
+    if rule_id.len() != 8 {
+        return not_fitting(draft);
+    }
+    let mut part = [0u8; 20];
+    let id_at = section_head(&mut part, 0x12, 20);
+    let flags_at = put(&mut part, id_at, rule_id);
+    let length_at = put_four(&mut part, flags_at, flags);
+    let check_at = put_one(&mut part, length_at, generated_length);
+    let symmetric_at = put_one(&mut part, check_at, key_check);
+    let asymmetric_at = put_one(&mut part, symmetric_at, symmetric_format);
+    let end = put_one(&mut part, asymmetric_at, asymmetric_format);
+    add_section(draft, &part[..end])
 }
 
 // Section 13, the name of the token: 64 bytes.
@@ -48,5 +114,24 @@ pub fn information(draft: &mut [u8], flags: u32) -> Answer
     let at = section_head(&mut part, 0x14, 10);
     let flags_at = put_two(&mut part, at, 0);
     let end = put_four(&mut part, flags_at, flags);
+    add_section(draft, &part[..end])
+}
+
+// Section 15, the application data: any bytes.
+pub fn application_data(draft: &mut [u8], data: &[u8]) -> Answer
+    ensures answer { λ r. ⌜ r ≡ writeAnswer (addition Parts.applicationData (now («data» .entry) ∷ []) (now (draft .entry))) ⌝ }
+    ensures draft { λ _. ⌜ now (draft .exit) ≡ draftAfter (addition Parts.applicationData (now («data» .entry) ∷ []) (now (draft .entry))) (now (draft .entry)) ⌝ }
+{
+    if 65535 < data.len() {
+        return not_fitting(draft);
+    }
+    let mut part = [0u8; TOKEN];
+    let n = 6 + data.len();
+    if ROOM < n {
+        return add_section(draft, &part);
+    }
+    let count_at = section_head(&mut part, 0x15, n);
+    let data_at = put_two(&mut part, count_at, data.len());
+    let end = put(&mut part, data_at, data);
     add_section(draft, &part[..end])
 }
