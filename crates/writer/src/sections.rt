@@ -15,10 +15,11 @@ use storing::put_four;
 use storing::put_one;
 use storing::put_two;
 
-// The bytes of the longest token, and what its header leaves of them. A section over ROOM is added as TOKEN bytes of any
-// content: no draft has room for either, and the answer is the same.
+// The bytes of the longest token.
 const TOKEN: usize = 3500;
 
+// What its header leaves of them. A longer section has no room in any draft, whatever its bytes are: TOKEN bytes are added
+// in its place and give the same answer.
 const ROOM: usize = 3492;
 
 // How a section begins: its id, 0, and its length n in two bytes.
@@ -91,7 +92,7 @@ pub fn rule(
     add_section(draft, &part[..end])
 }
 
-// Section 13, the name of the token: 64 bytes.
+// Section 13, the name: 64 bytes.
 pub fn name(draft: &mut [u8], name: &[u8]) -> Answer
     ensures answer { λ r. ⌜ r ≡ writeAnswer (addition Parts.name (now (name .entry) ∷ []) (now (draft .entry))) ⌝ }
     ensures draft { λ _. ⌜ now (draft .exit) ≡ draftAfter (addition Parts.name (now (name .entry) ∷ []) (now (draft .entry))) (now (draft .entry)) ⌝ }
