@@ -1,0 +1,26 @@
+// The writer on a lent draft: start, one addition for each kind, finish. The calls ask nothing.
+pub mod sections; // sections.rt: the additions of the five sections
+
+ghost use mathlib.Core.Path.{_≡_};
+ghost use Rattle.format.specs.Writer.{writeAnswer, draftAfter, start as started};
+use format::Answer;
+use sections::section_head;
+use storing::put_four;
+
+// A draft with its header and no sections: the id, 0, the length 8, and four bytes 0. A header begins as a section does.
+pub fn start(draft: &mut [u8], id: u8) -> Answer
+    ensures answer { λ r. ⌜ r ≡ writeAnswer (started id (now (draft .entry))) ⌝ }
+    ensures draft { λ _. ⌜ now (draft .exit) ≡ draftAfter (started id (now (draft .entry))) (now (draft .entry)) ⌝ }
+{
+    if draft.len() < 8 {
+        return Answer::Refused(23, 0);
+    }
+    match id {
+        0x1E | 0x1F => {
+            let at = section_head(draft, id, 8);
+            put_four(draft, at, 0);
+            Answer::Accepted(8)
+        }
+        _ => Answer::Refused(2, 0),
+    }
+}
