@@ -1,2 +1,3 @@
 pub mod Longer
 pub mod Outcomes
+pub mod Calls

@@ -1,3 +1,7 @@
+-- The draft's own fault, else 24. Assumes nothing.
+use mathlib.Core.Path.{sym, _∙_}
+use native.Mathlib.Omega.{arith}
+use Rattle.drafts.proofs.Calls.{reads, header-stands, unfit-fault, unfit-else}
 use borrow.Author.Needs.{needs}
 use Rattle.drafts.proofs.not_fitting.Statement.{statement}
 use Rattle.drafts.proofs.not_fitting.Tie as tie
@@ -20,7 +24,10 @@ enum-known-a-2 c = search needs
 
 -- src/lib.rt:22:56
 two-requires : tie.Need-two-requires
-two-requires c κs = ?
+two-requires c κs =
+    let d = c .before .before .before .before .before .args .draft .now in
+    let s = header-stands d (reads d (sym (c .before .a2 .given .1) ∙ c .before .before .before .read-draft .ensures)) in
+    omega (arith, s .least, s .there)
 
 -- src/lib.rt:22:56
 cast-t8 : tie.Need-cast-t8
@@ -28,11 +35,14 @@ cast-t8 c = search needs
 
 -- src/lib.rt:16:1
 returns : tie.Need-returns
-returns c = ?
+returns c =
+    unfit-fault (c .before .before .before .before .before .args .draft .now) (sym (c .before .a .given .1) ∙ c .before .before .before .read-draft .ensures)
 
 -- src/lib.rt:16:1
 returns-2 : tie.Need-returns-2
-returns-2 c = ?
+returns-2 c =
+    let d = c .before .before .before .before .before .before .args .draft .now in
+    unfit-else d (reads d (sym (c .before .before .a2 .given .1) ∙ c .before .before .before .before .read-draft .ensures)) (c .two .ensures .0)
 
 pub not-fitting-spec : {M : Type 1} → statement M
 not-fitting-spec =
