@@ -1,0 +1,76 @@
+// Public: the additions of the seven subsections. Each tests the lengths of what it is lent, writes the subsection's bytes
+// in an array of its own, and adds them to the draft's last section.
+ghost use mathlib.Core.Path.{_≡_};
+ghost use mathlib.Core.Bool.{true};
+ghost use mathlib.Core.List.{[], _∷_};
+ghost use Prim.Native.Nat.{_≤_, _<_};
+ghost use lib.ListN.{length};
+ghost use Rattle.format.specs.Layout.{write};
+ghost use Rattle.format.specs.Parts.{Kind, frame, transportVariant, transportRule, exportParameters, sourceRule};
+ghost use Rattle.format.specs.Parts.{tokenParameters};
+ghost use Rattle.format.specs.Writer.{writeAnswer, draftAfter, addition, exportFields, dateFields};
+ghost use Rattle.storing.specs.Storing.{Stored};
+ghost use Rattle.writer.specs.References.{NamesRule};
+use drafts::add_subsection;
+use drafts::not_fitting;
+use format::Answer;
+use storing::put;
+use storing::put_one;
+use storing::put_two;
+
+// How a subsection of n bytes begins: its tag, its length, version 0.
+fn subsection_head(part: &mut [u8], tag: u8, n: usize) -> usize
+    requires { ⌜ (5 ≤ length (now part)) × (n < 65536) ⌝ }
+    ensures { λ r. ⌜ Stored (now (part .entry)) 0 (write n (frame true 0 tag) []) (now (part .exit)) r ⌝ }
+{
+    let a = put_two(part, 0, tag as usize);
+    let b = put_two(part, a, n);
+    put_one(part, b, 0)
+}
+
+// Adds 12/0001: a variant.
+pub fn transport_variant(draft: &mut [u8], variant: &[u8]) -> Answer
+    ensures answer { λ r. ⌜ r ≡ writeAnswer (addition transportVariant (now (variant .entry) ∷ []) (now (draft .entry))) ⌝ }
+    ensures draft { λ _. ⌜ now (draft .exit) ≡ draftAfter (addition transportVariant (now (variant .entry) ∷ []) (now (draft .entry))) (now (draft .entry)) ⌝ }
+{
+    if 255 < variant.len() {
+        return not_fitting(draft);
+    }
+    let mut part = [0u8; 263];
+    let a = subsection_head(&mut part, 1, 8 + variant.len());
+    let b = put_two(&mut part, a, 0);
+    let c = put_one(&mut part, b, variant.len() as u8);
+    let d = put(&mut part, c, variant);
+    add_subsection(draft, 0x12, &part[..d])
+}
+
+// Adds the subsection of section 12 with this tag, which holds a Rule ID.
+fn referenced_rule(draft: &mut [u8], tag: u8, rule_id: &[u8]) -> Answer
+    ensures answer { λ r. ⌜ ((k : Kind) → NamesRule k tag → r ≡ writeAnswer (addition k (now («rule_id» .entry) ∷ []) (now (draft .entry)))) ⌝ }
+    ensures draft { λ _. ⌜ ((k : Kind) → NamesRule k tag → now (draft .exit) ≡ draftAfter (addition k (now («rule_id» .entry) ∷ []) (now (draft .entry))) (now (draft .entry))) ⌝ }
+{
+    if rule_id.len() != 8 {
+        return not_fitting(draft);
+    }
+    let mut part = [0u8; 14];
+    let a = subsection_head(&mut part, tag, 14);
+    let b = put_one(&mut part, a, 0);
+    let c = put(&mut part, b, rule_id);
+    add_subsection(draft, 0x12, &part[..c])
+}
+
+// Adds 12/0002: the Rule ID of the rule of the transport key.
+pub fn transport_rule(draft: &mut [u8], rule_id: &[u8]) -> Answer
+    ensures answer { λ r. ⌜ r ≡ writeAnswer (addition transportRule (now («rule_id» .entry) ∷ []) (now (draft .entry))) ⌝ }
+    ensures draft { λ _. ⌜ now (draft .exit) ≡ draftAfter (addition transportRule (now («rule_id» .entry) ∷ []) (now (draft .entry))) (now (draft .entry)) ⌝ }
+{
+    referenced_rule(draft, 2, rule_id)
+}
+
+// Adds 12/0004: the Rule ID of the rule of the source key.
+pub fn source_rule(draft: &mut [u8], rule_id: &[u8]) -> Answer
+    ensures answer { λ r. ⌜ r ≡ writeAnswer (addition sourceRule (now («rule_id» .entry) ∷ []) (now (draft .entry))) ⌝ }
+    ensures draft { λ _. ⌜ now (draft .exit) ≡ draftAfter (addition sourceRule (now («rule_id» .entry) ∷ []) (now (draft .entry))) (now (draft .entry)) ⌝ }
+{
+    referenced_rule(draft, 4, rule_id)
+}
