@@ -61,7 +61,7 @@ array-share-prefix-part c = search needs
 slice-aggregate-add-subsection : tie.Need-slice-aggregate-add-subsection
 slice-aggregate-add-subsection c =
     let p = c .before .before .before .put in
-    sym (length-take-le (p .result) (p .last .0) (search needs))
+    sym (length-take-le (p .result) (p .last .0) (array-share-prefix-part (c .before)))
 
 -- src/subsections.rt:59:5
 add-subsection-requires : tie.Need-add-subsection-requires
