@@ -1,2 +1,5 @@
 pub mod SectionBytes
+pub mod SubsectionBytes
+pub mod NamedRules
 pub mod StartBytes
+pub mod Main

@@ -1,5 +1,6 @@
 // The writer on a lent draft: start, one addition for each kind, finish. The calls ask nothing.
 pub mod sections; // sections.rt: the additions of the five sections
+pub mod subsections; // subsections.rt: the additions of the seven subsections
 
 ghost use mathlib.Core.Path.{_≡_};
 ghost use Rattle.format.specs.Writer.{writeAnswer, draftAfter, start as started};
