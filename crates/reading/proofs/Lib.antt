@@ -5,4 +5,3 @@ pub mod Rules
 pub mod Sections
 pub mod Headers
 pub mod Filled
-pub mod Finishing

@@ -30,10 +30,10 @@ rule-stored : {r : Answer} {e : List ℕ} (k : Kind) (g : ℕ) (x d old new : Li
     → (r ≡ writeAnswer (addition k (x ∷ []) d)) × (e ≡ draftAfter (addition k (x ∷ []) d) d)
 rule-stored {r} {e} k g x d old new n y h s b l a =
     let a′ =
-        subst
-        (λ (i : ℕ). (r ≡ writeAnswer (subsectionAdded i d (take n new))) × ((e ≡ draftAfter (subsectionAdded i d (take n new)) d) × Bytes d))
-        (sym (y .section))
-        a in
+    subst
+    (λ (i : ℕ). (r ≡ writeAnswer (subsectionAdded i d (take n new))) × ((e ≡ draftAfter (subsectionAdded i d (take n new)) d) × Bytes d))
+    (sym (y .section))
+    a in
     subsection-stored k (x ∷ []) d old new 14 n (y .subsection)
     (ap (λ (l : List Item). fits [] l (x ∷ [])) (y .fields) ∙ fixed-fits (length x) 8 h refl)
     (stored-as (ap (λ (l : List Item). write 14 l (x ∷ [])) (sym (y .fields))) s)

@@ -4,7 +4,10 @@ pub mod subsections; // subsections.rt: the additions of the seven subsections
 
 ghost use mathlib.Core.Path.{_≡_};
 ghost use Rattle.format.specs.Writer.{writeAnswer, draftAfter, start as started};
+use fields::two;
 use format::Answer;
+use reading::draft::read_draft;
+use reading::read;
 use sections::section_head;
 use storing::put_four;
 
@@ -23,5 +26,24 @@ pub fn start(draft: &mut [u8], id: u8) -> Answer
             Answer::Accepted(8)
         }
         _ => Answer::Refused(2, 0),
+    }
+}
+
+// Finishing changes no byte: the draft's own fault, else the reading's 20, else the draft's length.
+pub fn finish(draft: &[u8]) -> Answer
+    ensures { λ r. ⌜ r ≡ Rattle.format.specs.Writer.finish (now (draft .entry)) ⌝ }
+{
+    let a = read_draft(draft);
+    match a {
+        Answer::Refused(f, at) => Answer::Refused(f, at),
+        Answer::Accepted(_rows) => {
+            let n = two(draft, 2);
+            let length = n as u32;
+            let b = read(&draft[..n]);
+            match b {
+                Answer::Refused(number, place) => Answer::Refused(number, place),
+                Answer::Accepted(_rows) => Answer::Accepted(length),
+            }
+        }
     }
 }

@@ -77,7 +77,13 @@ pub fn source_rule(draft: &mut [u8], rule_id: &[u8]) -> Answer
 }
 
 // Adds 12/0003: the least and the greatest length of an export key, a variant and an initial vector.
-pub fn export_parameters(draft: &mut [u8], minimum: u8, maximum: u8, variant: &[u8], vector: &[u8]) -> Answer
+pub fn export_parameters(
+    draft: &mut [u8],
+    minimum: u8,
+    maximum: u8,
+    variant: &[u8],
+    vector: &[u8],
+) -> Answer
     ensures answer { λ r. ⌜ r ≡ writeAnswer (addition exportParameters (exportFields minimum maximum (now (variant .entry)) (now (vector .entry))) (now (draft .entry))) ⌝ }
     ensures draft { λ _. ⌜ now (draft .exit) ≡ draftAfter (addition exportParameters (exportFields minimum maximum (now (variant .entry)) (now (vector .entry))) (now (draft .entry))) (now (draft .entry)) ⌝ }
 {
@@ -98,7 +104,12 @@ pub fn export_parameters(draft: &mut [u8], minimum: u8, maximum: u8, variant: &[
 }
 
 // Adds 12/0005: a mask, a template of the same length, and a template of the label.
-pub fn token_parameters(draft: &mut [u8], mask: &[u8], template: &[u8], label_template: &[u8]) -> Answer
+pub fn token_parameters(
+    draft: &mut [u8],
+    mask: &[u8],
+    template: &[u8],
+    label_template: &[u8],
+) -> Answer
     ensures answer { λ r. ⌜ r ≡ writeAnswer (addition tokenParameters (now (mask .entry) ∷ now (template .entry) ∷ now («label_template» .entry) ∷ []) (now (draft .entry))) ⌝ }
     ensures draft { λ _. ⌜ now (draft .exit) ≡ draftAfter (addition tokenParameters (now (mask .entry) ∷ now (template .entry) ∷ now («label_template» .entry) ∷ []) (now (draft .entry))) (now (draft .entry)) ⌝ }
 {
@@ -106,7 +117,11 @@ pub fn token_parameters(draft: &mut [u8], mask: &[u8], template: &[u8], label_te
         return not_fitting(draft);
     }
     let mut part = [0u8; 775];
-    let a = subsection_head(&mut part, 5, 10 + mask.len() + template.len() + label_template.len());
+    let a = subsection_head(
+        &mut part,
+        5,
+        10 + mask.len() + template.len() + label_template.len(),
+    );
     let b = put_two(&mut part, a, 0);
     let c = put_one(&mut part, b, 0);
     let d = put_one(&mut part, c, mask.len() as u8);

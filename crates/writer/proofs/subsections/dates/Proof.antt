@@ -44,11 +44,11 @@ returns c =
     let x = a .activation .now in
     let y = a .expiration .now in
     unfit-added dates (dateFields (a .flags) x y) (a .draft .now)
-        (⊎-elim
-        (λ w. fixed-other (length x) 4 _ (w .taken))
-        (λ w. rest-fails (eqb (length x) 4) (fixed-other (length y) 4 true (eqb-false _ _ (not-true _ (w .1 .taken)))))
-        (c .before .before .if1 .came))
-        (c .not-fitting .ensures)
+    (⊎-elim
+    (λ w. fixed-other (length x) 4 _ (w .taken))
+    (λ w. rest-fails (eqb (length x) 4) (fixed-other (length y) 4 true (eqb-false _ _ (not-true _ (w .1 .taken)))))
+    (c .before .before .if1 .came))
+    (c .not-fitting .ensures)
 
 -- src/subsections.rt:146:29
 slice-aggregate-subsection-head : tie.Need-slice-aggregate-subsection-head
@@ -122,18 +122,18 @@ returns-2 c =
     let l = lengths i in
     let t : 16 ≡ y .put2 .result = omega arith in
     subsection-stored dates (dateFields (a .flags) (a .activation .now) (a .expiration .now)) (a .draft .now) _
-        (y .put2 .last .0)
-        16
-        (y .put2 .result)
-        refl
-        (fixed-fits _ 4 (l .0) (fixed-fits _ 4 (l .1) refl))
-        (stored-then (h .subsection-head .ensures)
-        (stored-then (z .put-one .ensures)
-        (stored-then (f .put-two .ensures)
-        (stored-then (x .put .ensures) (stored-then (y .put2 .ensures) (none-stored _ _))))))
-        (omega arith)
-        t
-        (s .add-subsection .ensures)
+    (y .put2 .last .0)
+    16
+    (y .put2 .result)
+    refl
+    (fixed-fits _ 4 (l .0) (fixed-fits _ 4 (l .1) refl))
+    (stored-then (h .subsection-head .ensures)
+    (stored-then (z .put-one .ensures)
+    (stored-then (f .put-two .ensures)
+    (stored-then (x .put .ensures) (stored-then (y .put2 .ensures) (none-stored _ _))))))
+    (omega arith)
+    t
+    (s .add-subsection .ensures)
 
 pub dates-spec : {M : Type 1} → statement M
 dates-spec =

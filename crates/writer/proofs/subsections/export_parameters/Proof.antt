@@ -49,12 +49,12 @@ returns c =
     let x = a .variant .now in
     let y = a .vector .now in
     unfit-added exportParameters (exportFields (a .minimum) (a .maximum) x y) (a .draft .now)
-        (⊎-elim
-        (λ w. counted-long (length x) _ (w .taken))
-        (λ w. rest-fails (ltb (length x) 256)
-        (rest-fails (eqb (length x) (length x)) (counted-long (length y) _ (ltb-true _ _ (w .1 .taken)))))
-        (c .before .before .if1 .came))
-        (c .not-fitting .ensures)
+    (⊎-elim
+    (λ w. counted-long (length x) _ (w .taken))
+    (λ w. rest-fails (ltb (length x) 256)
+    (rest-fails (eqb (length x) (length x)) (counted-long (length y) _ (ltb-true _ _ (w .1 .taken)))))
+    (c .before .before .if1 .came))
+    (c .not-fitting .ensures)
 
 -- src/subsections.rt:88:29
 slice-aggregate-subsection-head : tie.Need-slice-aggregate-subsection-head
@@ -183,23 +183,23 @@ returns-2 c =
     let e = small (i .before .before .before .before .before) in
     let t : 12 + length x + length y ≡ w .put2 .result = omega arith in
     subsection-stored exportParameters (exportFields (a .minimum) (a .maximum) x y) (a .draft .now) _
-        (w .put2 .last .0)
-        (12 + length x + length y)
-        (w .put2 .result)
-        refl
-        (counted-fits (length x) (l .0) (counted-fits (length y) (l .1) refl))
-        (stored-then (h .subsection-head .ensures)
-        (stored-then (z .put-two .ensures)
-        (stored-then (o .put-one .ensures)
-        (stored-then (one-stored (a .minimum) (e .0) (m .put-one2 .ensures))
-        (stored-then (one-stored (a .maximum) (e .1) (g .put-one3 .ensures))
-        (stored-then (one-stored (length x) (omega arith) (j .put-one4 .ensures))
-        (stored-then (v .put .ensures)
-        (stored-then (one-stored (length y) (omega arith) (k .put-one5 .ensures))
-        (stored-then (w .put2 .ensures) (none-stored _ _))))))))))
-        (omega arith)
-        t
-        (s .add-subsection .ensures)
+    (w .put2 .last .0)
+    (12 + length x + length y)
+    (w .put2 .result)
+    refl
+    (counted-fits (length x) (l .0) (counted-fits (length y) (l .1) refl))
+    (stored-then (h .subsection-head .ensures)
+    (stored-then (z .put-two .ensures)
+    (stored-then (o .put-one .ensures)
+    (stored-then (one-stored (a .minimum) (e .0) (m .put-one2 .ensures))
+    (stored-then (one-stored (a .maximum) (e .1) (g .put-one3 .ensures))
+    (stored-then (one-stored (length x) (omega arith) (j .put-one4 .ensures))
+    (stored-then (v .put .ensures)
+    (stored-then (one-stored (length y) (omega arith) (k .put-one5 .ensures))
+    (stored-then (w .put2 .ensures) (none-stored _ _))))))))))
+    (omega arith)
+    t
+    (s .add-subsection .ensures)
 
 pub export-parameters-spec : {M : Type 1} → statement M
 export-parameters-spec =

@@ -48,15 +48,15 @@ returns c =
     let y = a .mac .now in
     let z = a .mkvp .now in
     unfit-added protection (x ∷ y ∷ z ∷ []) (a .draft .now)
-        (⊎-elim
-        (λ w. fixed-other (length x) 32 _ (w .taken))
-        (λ v. rest-fails (eqb (length x) 32)
-        (⊎-elim
-        (λ w. fixed-other (length y) 8 _ (eqb-false _ _ (not-true _ (w .1 .taken))))
-        (λ w. rest-fails (eqb (length y) 8) (fixed-other (length z) 16 true (eqb-false _ _ (not-true _ (w .2 .taken)))))
-        v))
-        (c .before .before .if1 .came))
-        (c .not-fitting .ensures)
+    (⊎-elim
+    (λ w. fixed-other (length x) 32 _ (w .taken))
+    (λ v. rest-fails (eqb (length x) 32)
+    (⊎-elim
+    (λ w. fixed-other (length y) 8 _ (eqb-false _ _ (not-true _ (w .1 .taken))))
+    (λ w. rest-fails (eqb (length y) 8) (fixed-other (length z) 16 true (eqb-false _ _ (not-true _ (w .2 .taken)))))
+    v))
+    (c .before .before .if1 .came))
+    (c .not-fitting .ensures)
 
 -- src/subsections.rt:129:29
 slice-aggregate-subsection-head : tie.Need-slice-aggregate-subsection-head
@@ -130,18 +130,18 @@ returns-2 c =
     let l = lengths i in
     let t : 62 ≡ z .put3 .result = omega arith in
     subsection-stored protection (a .mac-key .now ∷ a .mac .now ∷ a .mkvp .now ∷ []) (a .draft .now) _
-        (z .put3 .last .0)
-        62
-        (z .put3 .result)
-        refl
-        (fixed-fits _ 32 (l .0) (fixed-fits _ 8 (l .1) (fixed-fits _ 16 (l .2) refl)))
-        (stored-then (h .subsection-head .ensures)
-        (stored-then (o .put-one .ensures)
-        (stored-then (x .put .ensures)
-        (stored-then (y .put2 .ensures) (stored-then (z .put3 .ensures) (none-stored _ _))))))
-        (omega arith)
-        t
-        (s .add-subsection .ensures)
+    (z .put3 .last .0)
+    62
+    (z .put3 .result)
+    refl
+    (fixed-fits _ 32 (l .0) (fixed-fits _ 8 (l .1) (fixed-fits _ 16 (l .2) refl)))
+    (stored-then (h .subsection-head .ensures)
+    (stored-then (o .put-one .ensures)
+    (stored-then (x .put .ensures)
+    (stored-then (y .put2 .ensures) (stored-then (z .put3 .ensures) (none-stored _ _))))))
+    (omega arith)
+    t
+    (s .add-subsection .ensures)
 
 pub protection-spec : {M : Type 1} → statement M
 protection-spec =

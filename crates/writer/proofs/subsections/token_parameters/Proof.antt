@@ -52,16 +52,16 @@ returns c =
     let y = a .template .now in
     let z = a .label-template .now in
     unfit-added tokenParameters (x ∷ y ∷ z ∷ []) (a .draft .now)
-        (⊎-elim
-        (λ w. counted-long (length x) _ (w .taken))
-        (λ v. rest-fails (ltb (length x) 256)
-        (rest-fails (eqb (length x) (length x))
-        (⊎-elim
-        (λ w. fixed-other (length y) (length x) _ (eqb-false _ _ (not-true _ (w .1 .taken))))
-        (λ w. rest-fails (eqb (length y) (length x)) (counted-long (length z) _ (ltb-true _ _ (w .2 .taken))))
-        v)))
-        (c .before .before .if1 .came))
-        (c .not-fitting .ensures)
+    (⊎-elim
+    (λ w. counted-long (length x) _ (w .taken))
+    (λ v. rest-fails (ltb (length x) 256)
+    (rest-fails (eqb (length x) (length x))
+    (⊎-elim
+    (λ w. fixed-other (length y) (length x) _ (eqb-false _ _ (not-true _ (w .1 .taken))))
+    (λ w. rest-fails (eqb (length y) (length x)) (counted-long (length z) _ (ltb-true _ _ (w .2 .taken))))
+    v)))
+    (c .before .before .if1 .came))
+    (c .not-fitting .ensures)
 
 -- src/subsections.rt:109:29
 slice-aggregate-subsection-head : tie.Need-slice-aggregate-subsection-head
@@ -185,22 +185,22 @@ returns-2 c =
     let l = lengths i in
     let t : 10 + length x + length y + length z ≡ w .put3 .result = omega arith in
     subsection-stored tokenParameters (x ∷ y ∷ z ∷ []) (a .draft .now) _
-        (w .put3 .last .0)
-        (10 + length x + length y + length z)
-        (w .put3 .result)
-        refl
-        (counted-fits (length x) (l .0) (fixed-fits _ (length x) (l .1) (counted-fits (length z) (l .2) refl)))
-        (stored-then (h .subsection-head .ensures)
-        (stored-then (n .put-two .ensures)
-        (stored-then (o .put-one .ensures)
-        (stored-then (one-stored (length x) (omega arith) (j .put-one2 .ensures))
-        (stored-then (u .put .ensures)
-        (stored-then (v .put2 .ensures)
-        (stored-then (one-stored (length z) (omega arith) (k .put-one3 .ensures))
-        (stored-then (w .put3 .ensures) (none-stored _ _)))))))))
-        (omega arith)
-        t
-        (s .add-subsection .ensures)
+    (w .put3 .last .0)
+    (10 + length x + length y + length z)
+    (w .put3 .result)
+    refl
+    (counted-fits (length x) (l .0) (fixed-fits _ (length x) (l .1) (counted-fits (length z) (l .2) refl)))
+    (stored-then (h .subsection-head .ensures)
+    (stored-then (n .put-two .ensures)
+    (stored-then (o .put-one .ensures)
+    (stored-then (one-stored (length x) (omega arith) (j .put-one2 .ensures))
+    (stored-then (u .put .ensures)
+    (stored-then (v .put2 .ensures)
+    (stored-then (one-stored (length z) (omega arith) (k .put-one3 .ensures))
+    (stored-then (w .put3 .ensures) (none-stored _ _)))))))))
+    (omega arith)
+    t
+    (s .add-subsection .ensures)
 
 pub token-parameters-spec : {M : Type 1} → statement M
 token-parameters-spec =

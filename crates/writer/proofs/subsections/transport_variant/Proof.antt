@@ -105,14 +105,14 @@ returns-2 c =
     let x = a .variant .now in
     let t : 8 + length x ≡ v .put .result = omega arith in
     subsection-stored transportVariant (x ∷ []) (a .draft .now) _ (v .put .last .0) (8 + length x) (v .put .result) refl
-        (counted-fits (length x) (search needs) refl)
-        (stored-then (h .subsection-head .ensures)
-        (stored-then (z .put-two .ensures)
-        (stored-then (one-stored (length x) (search needs) (n .put-one .ensures))
-        (stored-then (v .put .ensures) (none-stored _ _)))))
-        (search needs)
-        t
-        (s .add-subsection .ensures)
+    (counted-fits (length x) (search needs) refl)
+    (stored-then (h .subsection-head .ensures)
+    (stored-then (z .put-two .ensures)
+    (stored-then (one-stored (length x) (search needs) (n .put-one .ensures))
+    (stored-then (v .put .ensures) (none-stored _ _)))))
+    (search needs)
+    t
+    (s .add-subsection .ensures)
 
 pub transport-variant-spec : {M : Type 1} → statement M
 transport-variant-spec =
