@@ -1,0 +1,2 @@
+pub mod NamedRules
+pub mod SubsectionBytes
