@@ -2,7 +2,7 @@
 use mathlib.Core.Path.{_≡_, refl, sym, ap, _∙_}
 use mathlib.Core.Bool.{Bool, true, false, _&&_}
 use mathlib.Core.List.{List, [], _∷_}
-use Prim.Native.Nat.{ℕ, _+_, _%_, _<_, _≤_}
+use Prim.Native.Nat.{ℕ, _%_, _<_, _≤_}
 use native.Mathlib.Nat.{add-zero, zero-add}
 use native.Mathlib.Omega.{arith}
 use lib.Dec.{eqb, ltb}
@@ -58,12 +58,17 @@ one-stored x h s =
 pub none-stored : (l : List ℕ) (at : ℕ) → Stored l at [] l at
 none-stored l at = record { bytes = refl; place = sym (add-zero at) }
 
+-- ---- added to the draft d, which is then e
+
+-- what `add_subsection` promises of the bytes w and the section id i
+abbrev pub Added : Answer → List ℕ → ℕ → List ℕ → List ℕ → Type 0
+Added r e i d w =
+    (r ≡ writeAnswer (subsectionAdded i d w)) × ((e ≡ draftAfter (subsectionAdded i d w) d) × Bytes d)
+
 -- the bytes that were stored, cut out and added
 pub subsection-stored : {r : Answer} {e : List ℕ} (k : Kind) (fs : Fields) (d old new : List ℕ) (t n : ℕ)
     → isSubsection k ≡ true → fits [] (layout k) fs ≡ true → Stored old 0 (write t (layout k) fs) new n → n ≤ length old
-    → t ≡ n
-    → (r ≡ writeAnswer (subsectionAdded (sectionId k) d (take n new)))
-    × ((e ≡ draftAfter (subsectionAdded (sectionId k) d (take n new)) d) × Bytes d)
+    → t ≡ n → Added r e (sectionId k) d (take n new)
     → (r ≡ writeAnswer (addition k fs d)) × (e ≡ draftAfter (addition k fs d) d)
 subsection-stored k fs d old new t n b f s h l a =
     let w : take n new ≡ write t (layout k) fs = stored-cut old (write t (layout k) fs) new n s h in

@@ -6,8 +6,7 @@ ghost use mathlib.Core.List.{[], _∷_};
 ghost use Prim.Native.Nat.{_≤_, _<_};
 ghost use lib.ListN.{length};
 ghost use Rattle.format.specs.Layout.{write};
-ghost use Rattle.format.specs.Parts.{Kind, frame, transportVariant, transportRule, exportParameters, sourceRule};
-ghost use Rattle.format.specs.Parts.{tokenParameters};
+ghost use Rattle.format.specs.Parts.{Kind, frame, transportVariant, transportRule, exportParameters, sourceRule, tokenParameters};
 ghost use Rattle.format.specs.Parts as Parts;
 ghost use Rattle.format.specs.Writer.{writeAnswer, draftAfter, addition, exportFields, dateFields};
 ghost use Rattle.storing.specs.Storing.{Stored};
@@ -29,7 +28,7 @@ fn subsection_head(part: &mut [u8], tag: u8, n: usize) -> usize
     put_one(part, b, 0)
 }
 
-// Adds 12/0001: a variant.
+// Adds 12/0001, the transport variant.
 pub fn transport_variant(draft: &mut [u8], variant: &[u8]) -> Answer
     ensures answer { λ r. ⌜ r ≡ writeAnswer (addition transportVariant (now (variant .entry) ∷ []) (now (draft .entry))) ⌝ }
     ensures draft { λ _. ⌜ now (draft .exit) ≡ draftAfter (addition transportVariant (now (variant .entry) ∷ []) (now (draft .entry))) (now (draft .entry)) ⌝ }
@@ -60,7 +59,7 @@ fn referenced_rule(draft: &mut [u8], tag: u8, rule_id: &[u8]) -> Answer
     add_subsection(draft, 0x12, &part[..c])
 }
 
-// Adds 12/0002: the Rule ID of the rule of the transport key.
+// Adds 12/0002, the transport rule: its Rule ID.
 pub fn transport_rule(draft: &mut [u8], rule_id: &[u8]) -> Answer
     ensures answer { λ r. ⌜ r ≡ writeAnswer (addition transportRule (now («rule_id» .entry) ∷ []) (now (draft .entry))) ⌝ }
     ensures draft { λ _. ⌜ now (draft .exit) ≡ draftAfter (addition transportRule (now («rule_id» .entry) ∷ []) (now (draft .entry))) (now (draft .entry)) ⌝ }
@@ -68,15 +67,7 @@ pub fn transport_rule(draft: &mut [u8], rule_id: &[u8]) -> Answer
     referenced_rule(draft, 2, rule_id)
 }
 
-// Adds 12/0004: the Rule ID of the rule of the source key.
-pub fn source_rule(draft: &mut [u8], rule_id: &[u8]) -> Answer
-    ensures answer { λ r. ⌜ r ≡ writeAnswer (addition sourceRule (now («rule_id» .entry) ∷ []) (now (draft .entry))) ⌝ }
-    ensures draft { λ _. ⌜ now (draft .exit) ≡ draftAfter (addition sourceRule (now («rule_id» .entry) ∷ []) (now (draft .entry))) (now (draft .entry)) ⌝ }
-{
-    referenced_rule(draft, 4, rule_id)
-}
-
-// Adds 12/0003: the least and the greatest length of an export key, a variant and an initial vector.
+// Adds 12/0003, the export parameters: minimum and maximum, the variant and the control vector.
 pub fn export_parameters(
     draft: &mut [u8],
     minimum: u8,
@@ -103,7 +94,15 @@ pub fn export_parameters(
     add_subsection(draft, 0x12, &part[..i])
 }
 
-// Adds 12/0005: a mask, a template of the same length, and a template of the label.
+// Adds 12/0004, the source rule: its Rule ID.
+pub fn source_rule(draft: &mut [u8], rule_id: &[u8]) -> Answer
+    ensures answer { λ r. ⌜ r ≡ writeAnswer (addition sourceRule (now («rule_id» .entry) ∷ []) (now (draft .entry))) ⌝ }
+    ensures draft { λ _. ⌜ now (draft .exit) ≡ draftAfter (addition sourceRule (now («rule_id» .entry) ∷ []) (now (draft .entry))) (now (draft .entry)) ⌝ }
+{
+    referenced_rule(draft, 4, rule_id)
+}
+
+// Adds 12/0005, the token parameters: a mask, a template of the same length, and the label template.
 pub fn token_parameters(
     draft: &mut [u8],
     mask: &[u8],
@@ -132,7 +131,7 @@ pub fn token_parameters(
     add_subsection(draft, 0x12, &part[..h])
 }
 
-// Adds 14/0001: the key of the MAC, the MAC and the verification pattern of the master key.
+// Adds 14/0001, the protection: the MAC key, the MAC and the MKVP.
 pub fn protection(draft: &mut [u8], mac_key: &[u8], mac: &[u8], mkvp: &[u8]) -> Answer
     ensures answer { λ r. ⌜ r ≡ writeAnswer (addition Parts.protection (now («mac_key» .entry) ∷ now (mac .entry) ∷ now (mkvp .entry) ∷ []) (now (draft .entry))) ⌝ }
     ensures draft { λ _. ⌜ now (draft .exit) ≡ draftAfter (addition Parts.protection (now («mac_key» .entry) ∷ now (mac .entry) ∷ now (mkvp .entry) ∷ []) (now (draft .entry))) (now (draft .entry)) ⌝ }
@@ -149,7 +148,7 @@ pub fn protection(draft: &mut [u8], mac_key: &[u8], mac: &[u8], mkvp: &[u8]) -> 
     add_subsection(draft, 0x14, &part[..e])
 }
 
-// Adds 14/0002: flags, the date of activation and that of expiration.
+// Adds 14/0002, the dates: flags, activation and expiration.
 pub fn dates(draft: &mut [u8], flags: u16, activation: &[u8], expiration: &[u8]) -> Answer
     ensures answer { λ r. ⌜ r ≡ writeAnswer (addition Parts.dates (dateFields flags (now (activation .entry)) (now (expiration .entry))) (now (draft .entry))) ⌝ }
     ensures draft { λ _. ⌜ now (draft .exit) ≡ draftAfter (addition Parts.dates (dateFields flags (now (activation .entry)) (now (expiration .entry))) (now (draft .entry))) (now (draft .entry)) ⌝ }

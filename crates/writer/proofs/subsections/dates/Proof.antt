@@ -1,4 +1,4 @@
-use borrow.Author.Needs.{needs}
+-- `dates`: a date of another length than 4 is refused; else the bytes are stored in order and added. Assumes nothing.
 use mathlib.Core.Path.{_≡_, refl, sym}
 use mathlib.Core.Bool.{true}
 use mathlib.Core.Logic.{⊎-elim}
@@ -6,6 +6,7 @@ use native.Mathlib.Omega.{arith}
 use lib.Dec.{eqb}
 use lib.ListN.{length}
 use lib.Seq.{length-take-le}
+use borrow.Author.Needs.{needs}
 use borrow.Author.Tests.{eqb-true, eqb-false, not-true, not-false}
 use Rattle.format.specs.Parts.{dates}
 use Rattle.format.specs.Writer.{dateFields}
@@ -14,14 +15,6 @@ use Rattle.drafts.proofs.Additions.{unfit-added}
 use Rattle.writer.proofs.SubsectionBytes.{rest-fails, fixed-fits, fixed-other, none-stored, subsection-stored}
 use Rattle.writer.proofs.subsections.dates.Statement.{statement}
 use Rattle.writer.proofs.subsections.dates.Tie as tie
-use Rattle.writer.proofs.subsections.dates.Reads as reads
-use Rattle.writer.proofs.subsections.dates.Lts as lts
-use Rattle.drafts.proofs.add_subsection.Reads as add-subsection-reads
-use Rattle.drafts.proofs.not_fitting.Reads as not-fitting-reads
-use Rattle.storing.proofs.put.Reads as put-reads
-use Rattle.storing.proofs.put_one.Reads as put-one-reads
-use Rattle.storing.proofs.put_two.Reads as put-two-reads
-use Rattle.writer.proofs.subsections.subsection_head.Reads as subsection-head-reads
 
 -- behind the tests both dates have their length
 lengths : (c : tie.Else2)
@@ -29,15 +22,12 @@ lengths : (c : tie.Else2)
     × (length (c .before .before .before .before .before .args .expiration .now) ≡ 4)
 lengths c = (c .before .if1 .left, eqb-true _ _ (not-false _ (c .if2 .left)))
 
--- src/subsections.rt:143:9
 not-fitting-requires : tie.Need-not-fitting-requires
 not-fitting-requires c κs = search needs
 
--- src/subsections.rt:143:9
 same-length : tie.Need-same-length
 same-length c = search needs
 
--- src/subsections.rt:143:9
 returns : tie.Need-returns
 returns c =
     let a = c .before .before .before .before .before .before .args in
@@ -50,65 +40,50 @@ returns c =
     (c .before .before .if1 .came))
     (c .not-fitting .ensures)
 
--- src/subsections.rt:146:29
 slice-aggregate-subsection-head : tie.Need-slice-aggregate-subsection-head
 slice-aggregate-subsection-head c = search needs
 
--- src/subsections.rt:146:9
 subsection-head-requires : tie.Need-subsection-head-requires
 subsection-head-requires c κs = search needs
 
--- src/subsections.rt:147:21
 slice-aggregate-put-one : tie.Need-slice-aggregate-put-one
 slice-aggregate-put-one c = search needs
 
--- src/subsections.rt:147:9
 put-one-requires : tie.Need-put-one-requires
 put-one-requires c κs = search needs
 
--- src/subsections.rt:148:21
 slice-aggregate-put-two : tie.Need-slice-aggregate-put-two
 slice-aggregate-put-two c = search needs
 
--- src/subsections.rt:148:9
 put-two-requires : tie.Need-put-two-requires
 put-two-requires c κs = search needs
 
--- src/subsections.rt:149:17
 slice-aggregate-put : tie.Need-slice-aggregate-put
 slice-aggregate-put c = search needs
 
--- src/subsections.rt:149:9
 put-requires : tie.Need-put-requires
-put-requires c κs = search needs
+put-requires c κs = omega (arith, lengths (c .before .before .before .before .before .before .before .before .before .before))
 
--- src/subsections.rt:150:17
 slice-aggregate-put-2 : tie.Need-slice-aggregate-put-2
 slice-aggregate-put-2 c = search needs
 
--- src/subsections.rt:150:9
 put-requires-2 : tie.Need-put-requires-2
 put-requires-2 c κs = omega (arith, lengths (c .before .before .before .before .before .before .before .before .before .before .before .before .before))
 
--- src/subsections.rt:151:33
 array-share-prefix-part : tie.Need-array-share-prefix-part
 array-share-prefix-part c = omega (arith, lengths (c .before .before .before .before .before .before .before .before .before .before .before .before .before .before .before .before))
 
--- src/subsections.rt:151:33
 slice-aggregate-add-subsection : tie.Need-slice-aggregate-add-subsection
 slice-aggregate-add-subsection c =
     let p = c .before .before .before .put2 in
     sym (length-take-le (p .result) (p .last .0) (array-share-prefix-part (c .before)))
 
--- src/subsections.rt:151:5
 add-subsection-requires : tie.Need-add-subsection-requires
 add-subsection-requires c κs = search needs
 
--- src/subsections.rt:138:1
 same-length-2 : tie.Need-same-length-2
 same-length-2 c = search needs
 
--- src/subsections.rt:138:1
 returns-2 : tie.Need-returns-2
 returns-2 c =
     let s = c .before .before in

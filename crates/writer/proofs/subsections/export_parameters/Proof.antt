@@ -1,4 +1,5 @@
-use borrow.Author.Needs.{needs}
+-- `export_parameters`: a variant or a vector whose length a byte can't state is refused; else the bytes are stored in order and
+-- added. Assumes nothing.
 use mathlib.Core.Path.{_≡_, refl, sym}
 use mathlib.Core.Logic.{⊎-elim}
 use Prim.Native.Nat.{_+_, _<_, _≤_}
@@ -6,6 +7,7 @@ use native.Mathlib.Omega.{arith}
 use lib.Dec.{eqb, ltb}
 use lib.ListN.{length}
 use lib.Seq.{length-take-le}
+use borrow.Author.Needs.{needs}
 use borrow.Author.Tests.{ltb-true, ltb-false}
 use Rattle.format.specs.Parts.{exportParameters}
 use Rattle.format.specs.Writer.{exportFields}
@@ -15,14 +17,6 @@ use Rattle.writer.proofs.SubsectionBytes.{rest-fails, counted-fits, cou
 use Rattle.writer.proofs.SubsectionBytes.{subsection-stored}
 use Rattle.writer.proofs.subsections.export_parameters.Statement.{statement}
 use Rattle.writer.proofs.subsections.export_parameters.Tie as tie
-use Rattle.writer.proofs.subsections.export_parameters.Reads as reads
-use Rattle.writer.proofs.subsections.export_parameters.Lts as lts
-use Rattle.drafts.proofs.add_subsection.Reads as add-subsection-reads
-use Rattle.drafts.proofs.not_fitting.Reads as not-fitting-reads
-use Rattle.storing.proofs.put.Reads as put-reads
-use Rattle.storing.proofs.put_one.Reads as put-one-reads
-use Rattle.storing.proofs.put_two.Reads as put-two-reads
-use Rattle.writer.proofs.subsections.subsection_head.Reads as subsection-head-reads
 
 -- behind the tests a byte can state each length
 lengths : (c : tie.Else2)
@@ -34,15 +28,12 @@ lengths c = (c .before .if1 .left, ltb-false _ _ (c .if2 .left))
 small : (c : tie.Start) → (c .args .minimum < 256) × (c .args .maximum < 256)
 small c = (search needs, search needs)
 
--- src/subsections.rt:85:9
 not-fitting-requires : tie.Need-not-fitting-requires
 not-fitting-requires c κs = search needs
 
--- src/subsections.rt:85:9
 same-length : tie.Need-same-length
 same-length c = search needs
 
--- src/subsections.rt:85:9
 returns : tie.Need-returns
 returns c =
     let a = c .before .before .before .before .before .before .args in
@@ -56,113 +47,86 @@ returns c =
     (c .before .before .if1 .came))
     (c .not-fitting .ensures)
 
--- src/subsections.rt:88:29
 slice-aggregate-subsection-head : tie.Need-slice-aggregate-subsection-head
 slice-aggregate-subsection-head c = search needs
 
--- src/subsections.rt:88:43
 add-subsection-head : tie.Need-add-subsection-head
 add-subsection-head c = search needs
 
--- src/subsections.rt:88:43
 add-subsection-head-2 : tie.Need-add-subsection-head-2
 add-subsection-head-2 c = search needs
 
--- src/subsections.rt:88:9
 subsection-head-requires : tie.Need-subsection-head-requires
 subsection-head-requires c κs = omega (arith, lengths (c .before))
 
--- src/subsections.rt:89:21
 slice-aggregate-put-two : tie.Need-slice-aggregate-put-two
 slice-aggregate-put-two c = search needs
 
--- src/subsections.rt:89:9
 put-two-requires : tie.Need-put-two-requires
 put-two-requires c κs = search needs
 
--- src/subsections.rt:90:21
 slice-aggregate-put-one : tie.Need-slice-aggregate-put-one
 slice-aggregate-put-one c = search needs
 
--- src/subsections.rt:90:9
 put-one-requires : tie.Need-put-one-requires
 put-one-requires c κs = search needs
 
--- src/subsections.rt:91:21
 slice-aggregate-put-one-2 : tie.Need-slice-aggregate-put-one-2
 slice-aggregate-put-one-2 c = search needs
 
--- src/subsections.rt:91:9
 put-one-requires-2 : tie.Need-put-one-requires-2
 put-one-requires-2 c κs = search needs
 
--- src/subsections.rt:92:21
 slice-aggregate-put-one-3 : tie.Need-slice-aggregate-put-one-3
 slice-aggregate-put-one-3 c = search needs
 
--- src/subsections.rt:92:9
 put-one-requires-3 : tie.Need-put-one-requires-3
 put-one-requires-3 c κs = search needs
 
--- src/subsections.rt:93:21
 slice-aggregate-put-one-4 : tie.Need-slice-aggregate-put-one-4
 slice-aggregate-put-one-4 c = search needs
 
--- src/subsections.rt:93:35
 cast-put-one : tie.Need-cast-put-one
 cast-put-one c = search needs
 
--- src/subsections.rt:93:9
 put-one-requires-4 : tie.Need-put-one-requires-4
 put-one-requires-4 c κs = search needs
 
--- src/subsections.rt:94:17
 slice-aggregate-put : tie.Need-slice-aggregate-put
 slice-aggregate-put c = search needs
 
--- src/subsections.rt:94:9
 put-requires : tie.Need-put-requires
 put-requires c κs = search needs
 
--- src/subsections.rt:95:21
 slice-aggregate-put-one-5 : tie.Need-slice-aggregate-put-one-5
 slice-aggregate-put-one-5 c = search needs
 
--- src/subsections.rt:95:35
 cast-put-one-2 : tie.Need-cast-put-one-2
 cast-put-one-2 c = search needs
 
--- src/subsections.rt:95:9
 put-one-requires-5 : tie.Need-put-one-requires-5
 put-one-requires-5 c κs = search needs
 
--- src/subsections.rt:96:17
 slice-aggregate-put-2 : tie.Need-slice-aggregate-put-2
 slice-aggregate-put-2 c = search needs
 
--- src/subsections.rt:96:9
 put-requires-2 : tie.Need-put-requires-2
 put-requires-2 c κs = omega (arith, lengths (c .before .before .before .before .before .before .before .before .before .before .before .before .before .before .before .before .before .before .before .before .before .before .before .before .before))
 
--- src/subsections.rt:97:33
 array-share-prefix-part : tie.Need-array-share-prefix-part
 array-share-prefix-part c = omega (arith, lengths (c .before .before .before .before .before .before .before .before .before .before .before .before .before .before .before .before .before .before .before .before .before .before .before .before .before .before .before .before))
 
--- src/subsections.rt:97:33
 slice-aggregate-add-subsection : tie.Need-slice-aggregate-add-subsection
 slice-aggregate-add-subsection c =
     let p = c .before .before .before .put2 in
     sym (length-take-le (p .result) (p .last .0) (array-share-prefix-part (c .before)))
 
--- src/subsections.rt:97:5
 add-subsection-requires : tie.Need-add-subsection-requires
 add-subsection-requires c κs = search needs
 
--- src/subsections.rt:80:1
 same-length-2 : tie.Need-same-length-2
 same-length-2 c = search needs
 
--- src/subsections.rt:80:1
 returns-2 : tie.Need-returns-2
 returns-2 c =
     let s = c .before .before in

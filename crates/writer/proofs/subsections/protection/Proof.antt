@@ -1,4 +1,4 @@
-use borrow.Author.Needs.{needs}
+-- `protection`: a field of another length than its own is refused; else the bytes are stored in order and added. Assumes nothing.
 use mathlib.Core.Path.{_≡_, refl, sym}
 use mathlib.Core.Bool.{true}
 use mathlib.Core.List.{[], _∷_}
@@ -7,6 +7,7 @@ use native.Mathlib.Omega.{arith}
 use lib.Dec.{eqb}
 use lib.ListN.{length}
 use lib.Seq.{length-take-le}
+use borrow.Author.Needs.{needs}
 use borrow.Author.Tests.{eqb-true, eqb-false, not-true, not-false}
 use Rattle.format.specs.Parts.{protection}
 use Rattle.storing.proofs.Stores.{stored-then}
@@ -14,13 +15,6 @@ use Rattle.drafts.proofs.Additions.{unfit-added}
 use Rattle.writer.proofs.SubsectionBytes.{rest-fails, fixed-fits, fixed-other, none-stored, subsection-stored}
 use Rattle.writer.proofs.subsections.protection.Statement.{statement}
 use Rattle.writer.proofs.subsections.protection.Tie as tie
-use Rattle.writer.proofs.subsections.protection.Reads as reads
-use Rattle.writer.proofs.subsections.protection.Lts as lts
-use Rattle.drafts.proofs.add_subsection.Reads as add-subsection-reads
-use Rattle.drafts.proofs.not_fitting.Reads as not-fitting-reads
-use Rattle.storing.proofs.put.Reads as put-reads
-use Rattle.storing.proofs.put_one.Reads as put-one-reads
-use Rattle.writer.proofs.subsections.subsection_head.Reads as subsection-head-reads
 
 -- behind the tests each field has its length
 lengths : (c : tie.Else3)
@@ -32,15 +26,12 @@ lengths c = (
   eqb-true _ _ (not-false _ (c .if3 .left)),
 )
 
--- src/subsections.rt:126:9
 not-fitting-requires : tie.Need-not-fitting-requires
 not-fitting-requires c κs = search needs
 
--- src/subsections.rt:126:9
 same-length : tie.Need-same-length
 same-length c = search needs
 
--- src/subsections.rt:126:9
 returns : tie.Need-returns
 returns c =
     let a = c .before .before .before .before .before .before .before .args in
@@ -58,65 +49,50 @@ returns c =
     (c .before .before .if1 .came))
     (c .not-fitting .ensures)
 
--- src/subsections.rt:129:29
 slice-aggregate-subsection-head : tie.Need-slice-aggregate-subsection-head
 slice-aggregate-subsection-head c = search needs
 
--- src/subsections.rt:129:9
 subsection-head-requires : tie.Need-subsection-head-requires
 subsection-head-requires c κs = search needs
 
--- src/subsections.rt:130:21
 slice-aggregate-put-one : tie.Need-slice-aggregate-put-one
 slice-aggregate-put-one c = search needs
 
--- src/subsections.rt:130:9
 put-one-requires : tie.Need-put-one-requires
 put-one-requires c κs = search needs
 
--- src/subsections.rt:131:17
 slice-aggregate-put : tie.Need-slice-aggregate-put
 slice-aggregate-put c = search needs
 
--- src/subsections.rt:131:9
 put-requires : tie.Need-put-requires
 put-requires c κs = search needs
 
--- src/subsections.rt:132:17
 slice-aggregate-put-2 : tie.Need-slice-aggregate-put-2
 slice-aggregate-put-2 c = search needs
 
--- src/subsections.rt:132:9
 put-requires-2 : tie.Need-put-requires-2
 put-requires-2 c κs = omega (arith, lengths (c .before .before .before .before .before .before .before .before .before .before))
 
--- src/subsections.rt:133:17
 slice-aggregate-put-3 : tie.Need-slice-aggregate-put-3
 slice-aggregate-put-3 c = search needs
 
--- src/subsections.rt:133:9
 put-requires-3 : tie.Need-put-requires-3
 put-requires-3 c κs = omega (arith, lengths (c .before .before .before .before .before .before .before .before .before .before .before .before .before))
 
--- src/subsections.rt:134:33
 array-share-prefix-part : tie.Need-array-share-prefix-part
 array-share-prefix-part c = omega (arith, lengths (c .before .before .before .before .before .before .before .before .before .before .before .before .before .before .before .before))
 
--- src/subsections.rt:134:33
 slice-aggregate-add-subsection : tie.Need-slice-aggregate-add-subsection
 slice-aggregate-add-subsection c =
     let p = c .before .before .before .put3 in
     sym (length-take-le (p .result) (p .last .0) (array-share-prefix-part (c .before)))
 
--- src/subsections.rt:134:5
 add-subsection-requires : tie.Need-add-subsection-requires
 add-subsection-requires c κs = search needs
 
--- src/subsections.rt:121:1
 same-length-2 : tie.Need-same-length-2
 same-length-2 c = search needs
 
--- src/subsections.rt:121:1
 returns-2 : tie.Need-returns-2
 returns-2 c =
     let s = c .before .before in

@@ -1,29 +1,21 @@
+-- `subsection_head`: tag, length and version, one behind the other. Assumes nothing.
 use borrow.Author.Needs.{needs}
 use Rattle.storing.proofs.Stores.{stored-then}
 use Rattle.writer.proofs.subsections.subsection_head.Statement.{statement}
 use Rattle.writer.proofs.subsections.subsection_head.Tie as tie
-use Rattle.writer.proofs.subsections.subsection_head.Reads as reads
-use Rattle.writer.proofs.subsections.subsection_head.Lts as lts
-use Rattle.storing.proofs.put_one.Reads as put-one-reads
-use Rattle.storing.proofs.put_two.Reads as put-two-reads
 
--- src/subsections.rt:26:9
 put-two-requires : tie.Need-put-two-requires
 put-two-requires c κs = search needs
 
--- src/subsections.rt:27:9
 put-two-requires-2 : tie.Need-put-two-requires-2
 put-two-requires-2 c κs = search needs
 
--- src/subsections.rt:28:5
 put-one-requires : tie.Need-put-one-requires
 put-one-requires c κs = search needs
 
--- src/subsections.rt:22:1
 same-length : tie.Need-same-length
 same-length c = search needs
 
--- src/subsections.rt:22:1
 returns : tie.Need-returns
 returns c =
     let v = c .before .before in

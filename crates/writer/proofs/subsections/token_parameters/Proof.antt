@@ -1,4 +1,5 @@
-use borrow.Author.Needs.{needs}
+-- `token_parameters`: a length that a byte can't state or a template of another length than the mask is refused; else the bytes
+-- are stored in order and added. Assumes nothing.
 use mathlib.Core.Path.{_≡_, refl, sym}
 use mathlib.Core.List.{[], _∷_}
 use mathlib.Core.Logic.{⊎-elim}
@@ -7,6 +8,7 @@ use native.Mathlib.Omega.{arith}
 use lib.Dec.{eqb, ltb}
 use lib.ListN.{length}
 use lib.Seq.{length-take-le}
+use borrow.Author.Needs.{needs}
 use borrow.Author.Tests.{eqb-true, eqb-false, ltb-true, ltb-false, not-true, not-false}
 use Rattle.format.specs.Parts.{tokenParameters}
 use Rattle.storing.proofs.Stores.{stored-then}
@@ -15,14 +17,6 @@ use Rattle.writer.proofs.SubsectionBytes.{rest-fails, counted-fits, cou
 use Rattle.writer.proofs.SubsectionBytes.{one-stored, none-stored, subsection-stored}
 use Rattle.writer.proofs.subsections.token_parameters.Statement.{statement}
 use Rattle.writer.proofs.subsections.token_parameters.Tie as tie
-use Rattle.writer.proofs.subsections.token_parameters.Reads as reads
-use Rattle.writer.proofs.subsections.token_parameters.Lts as lts
-use Rattle.drafts.proofs.add_subsection.Reads as add-subsection-reads
-use Rattle.drafts.proofs.not_fitting.Reads as not-fitting-reads
-use Rattle.storing.proofs.put.Reads as put-reads
-use Rattle.storing.proofs.put_one.Reads as put-one-reads
-use Rattle.storing.proofs.put_two.Reads as put-two-reads
-use Rattle.writer.proofs.subsections.subsection_head.Reads as subsection-head-reads
 
 -- behind the tests a byte can state each length, and the template is as long as the mask
 lengths : (c : tie.Else3)
@@ -36,15 +30,12 @@ lengths c = (
   ltb-false _ _ (c .if3 .left),
 )
 
--- src/subsections.rt:106:9
 not-fitting-requires : tie.Need-not-fitting-requires
 not-fitting-requires c κs = search needs
 
--- src/subsections.rt:106:9
 same-length : tie.Need-same-length
 same-length c = search needs
 
--- src/subsections.rt:106:9
 returns : tie.Need-returns
 returns c =
     let a = c .before .before .before .before .before .before .before .args in
@@ -63,109 +54,83 @@ returns c =
     (c .before .before .if1 .came))
     (c .not-fitting .ensures)
 
--- src/subsections.rt:109:29
 slice-aggregate-subsection-head : tie.Need-slice-aggregate-subsection-head
 slice-aggregate-subsection-head c = search needs
 
--- src/subsections.rt:109:43
 add-subsection-head : tie.Need-add-subsection-head
 add-subsection-head c = search needs
 
--- src/subsections.rt:109:43
 add-subsection-head-2 : tie.Need-add-subsection-head-2
 add-subsection-head-2 c = search needs
 
--- src/subsections.rt:109:43
 add-subsection-head-3 : tie.Need-add-subsection-head-3
 add-subsection-head-3 c = omega (arith, lengths (c .before))
 
--- src/subsections.rt:109:9
 subsection-head-requires : tie.Need-subsection-head-requires
 subsection-head-requires c κs = omega (arith, lengths (c .before))
 
--- src/subsections.rt:110:21
 slice-aggregate-put-two : tie.Need-slice-aggregate-put-two
 slice-aggregate-put-two c = search needs
 
--- src/subsections.rt:110:9
 put-two-requires : tie.Need-put-two-requires
 put-two-requires c κs = search needs
 
--- src/subsections.rt:111:21
 slice-aggregate-put-one : tie.Need-slice-aggregate-put-one
 slice-aggregate-put-one c = search needs
 
--- src/subsections.rt:111:9
 put-one-requires : tie.Need-put-one-requires
 put-one-requires c κs = search needs
 
--- src/subsections.rt:112:21
 slice-aggregate-put-one-2 : tie.Need-slice-aggregate-put-one-2
 slice-aggregate-put-one-2 c = search needs
 
--- src/subsections.rt:112:35
 cast-put-one : tie.Need-cast-put-one
 cast-put-one c = search needs
 
--- src/subsections.rt:112:9
 put-one-requires-2 : tie.Need-put-one-requires-2
 put-one-requires-2 c κs = search needs
 
--- src/subsections.rt:113:17
 slice-aggregate-put : tie.Need-slice-aggregate-put
 slice-aggregate-put c = search needs
 
--- src/subsections.rt:113:9
 put-requires : tie.Need-put-requires
 put-requires c κs = search needs
 
--- src/subsections.rt:114:17
 slice-aggregate-put-2 : tie.Need-slice-aggregate-put-2
 slice-aggregate-put-2 c = search needs
 
--- src/subsections.rt:114:9
 put-requires-2 : tie.Need-put-requires-2
 put-requires-2 c κs = omega (arith, lengths (c .before .before .before .before .before .before .before .before .before .before .before .before .before .before .before .before))
 
--- src/subsections.rt:115:21
 slice-aggregate-put-one-3 : tie.Need-slice-aggregate-put-one-3
 slice-aggregate-put-one-3 c = search needs
 
--- src/subsections.rt:115:35
 cast-put-one-2 : tie.Need-cast-put-one-2
 cast-put-one-2 c = search needs
 
--- src/subsections.rt:115:9
 put-one-requires-3 : tie.Need-put-one-requires-3
 put-one-requires-3 c κs = omega (arith, lengths (c .before .before .before .before .before .before .before .before .before .before .before .before .before .before .before .before .before .before .before))
 
--- src/subsections.rt:116:17
 slice-aggregate-put-3 : tie.Need-slice-aggregate-put-3
 slice-aggregate-put-3 c = search needs
 
--- src/subsections.rt:116:9
 put-requires-3 : tie.Need-put-requires-3
 put-requires-3 c κs = omega (arith, lengths (c .before .before .before .before .before .before .before .before .before .before .before .before .before .before .before .before .before .before .before .before .before .before))
 
--- src/subsections.rt:117:33
 array-share-prefix-part : tie.Need-array-share-prefix-part
 array-share-prefix-part c = omega (arith, lengths (c .before .before .before .before .before .before .before .before .before .before .before .before .before .before .before .before .before .before .before .before .before .before .before .before .before))
 
--- src/subsections.rt:117:33
 slice-aggregate-add-subsection : tie.Need-slice-aggregate-add-subsection
 slice-aggregate-add-subsection c =
     let p = c .before .before .before .put3 in
     sym (length-take-le (p .result) (p .last .0) (array-share-prefix-part (c .before)))
 
--- src/subsections.rt:117:5
 add-subsection-requires : tie.Need-add-subsection-requires
 add-subsection-requires c κs = search needs
 
--- src/subsections.rt:101:1
 same-length-2 : tie.Need-same-length-2
 same-length-2 c = search needs
 
--- src/subsections.rt:101:1
 returns-2 : tie.Need-returns-2
 returns-2 c =
     let s = c .before .before in
