@@ -1,10 +1,9 @@
 -- The longer draft as bytes: lengths restated in it, and a part stored behind it. Assumes nothing.
-use mathlib.Core.Path.{_≡_, refl, sym, ap, ap₂, _∙_}
+use mathlib.Core.Path.{_≡_, sym, ap, ap₂, _∙_}
 use mathlib.Core.List.{List, _++_}
-use Prim.Native.Nat.{ℕ, suc, _+_, _-_, _/_, _%_, _<_, _≤_}
-use native.Mathlib.Nat.{zero-add}
+use Prim.Native.Nat.{ℕ, suc, _+_, _-_, _/_, _%_, _≤_}
 use native.Mathlib.Omega.{arith}
-use lib.ListN.{length, getD, take, drop, set, length-append, length-drop, length-set}
+use lib.ListN.{length, take, drop, set, length-append, length-drop, length-set}
 use lib.Seq.{sets, sets-eq, take-at, drop-drop, length-take-le, set-append-left, lt-length-set}
 use Rattle.format.specs.Bytes.{number, bytesAt, bigEndian}
 use Rattle.format.specs.Reading.{stated}
@@ -39,12 +38,12 @@ stated-at d o = ap (λ (y : List ℕ). number (take 2 y)) (sym (drop-drop 2 o d)
 -- ---- the longer draft
 
 -- A text stored where the first bytes end, and what is then in front of its end.
-pub stored-behind : {last : List ℕ} {p q : ℕ} (a b w : List ℕ) → length a ≡ p → length w ≤ length b → Stored (a ++ b) p w last q
+pub stored-behind : {last : List ℕ} {p : ℕ} (a b w : List ℕ) → length a ≡ p → length w ≤ length b → last ≡ sets (a ++ b) p w
     → take (p + length w) last ≡ a ++ w
 stored-behind {last} {p} a b w e h s =
     let n = length-append a b in
     let m = length-append a w in
-    let r : last ≡ take p (a ++ b) ++ w ++ drop (p + length w) (a ++ b) = s .bytes ∙ sets-eq w (a ++ b) p (omega arith) in
+    let r : last ≡ take p (a ++ b) ++ w ++ drop (p + length w) (a ++ b) = s ∙ sets-eq w (a ++ b) p (omega arith) in
     ap (take (p + length w)) (r ∙ ap (λ (y : List ℕ). y ++ w ++ drop (p + length w) (a ++ b)) (take-at a b p e))
     ∙ take-at (a ++ w) (drop (p + length w) (a ++ b)) (p + length w) (omega arith)
 
@@ -60,16 +59,15 @@ grown-long d o w s =
     omega arith
 
 -- The draft's bytes, the two lengths and the part, stored one after the other, give the longer draft.
-pub grown-stored : {z first second third last : List ℕ} {n m p q : ℕ} (d : List ℕ) (o : ℕ) (w : List ℕ) → Standing d o
+pub grown-stored : {z first second third last : List ℕ} {n m p : ℕ} (d : List ℕ) (o : ℕ) (w : List ℕ) → Standing d o
     → stated d + length w ≤ length z
     → n ≡ stated d → m ≡ stated (drop o d)
     → Stored z 0 (take n d) first p
     → second ≡ restate 0 (n + length w) first
     → third ≡ restate o (m + length w) second
-    → Stored third p w last q
+    → last ≡ sets third p w
     → take (stated d + length w) last ≡ grown d o w
-grown-stored {z} {first} {second} {third} {last} {n} {m} {p} {q} d o w st room en em s e f t =
-    let k : ℕ = stated d in
+grown-stored {z} {first} {second} {third} {last} {n} {m} {p} d o w st room en em s e f t =
     let a : List ℕ = take n d in
     let b : List ℕ = drop (length a) z in
     let x : List ℕ = restate o (m + length w) (restate 0 (n + length w) a) in
@@ -86,7 +84,7 @@ grown-stored {z} {first} {second} {third} {last} {n} {m} {p} {q} d o w st room e
     e ∙ ap (restate 0 (n + length w)) r₁ ∙ restate-front 0 (n + length w) a b (omega arith) in
     let r₃ : third ≡ x ++ b =
     f ∙ ap (restate o (m + length w)) r₂ ∙ restate-front o (m + length w) (restate 0 (n + length w) a) b (omega arith) in
-    let u : Stored (x ++ b) p w last q = record { bytes = t .bytes ∙ ap (λ (y : List ℕ). sets y p w) r₃; place = t .place } in
+    let u : last ≡ sets (x ++ b) p w = t ∙ ap (λ (y : List ℕ). sets y p w) r₃ in
     let pn : stated d + length w ≡ p + length w = omega arith in
     ap (λ (j : ℕ). take j last) pn
     ∙ stored-behind x b w (omega arith) (omega arith) u

@@ -4,20 +4,17 @@ use mathlib.Core.Bool.{Bool, true, false, _&&_}
 use mathlib.Core.List.{List, _++_}
 use Prim.Native.Nat.{ℕ, _+_, _<_, _≤_}
 use native.Mathlib.Omega.{arith}
-use lib.Dec.{eqb, leb}
-use lib.ListN.{length, getD, take, drop}
-use borrow.Author.Tests.{le-leb, lt-leb, leb-true, eq-eqb, ne-eqb}
-use Rattle.format.specs.Bytes.{Bytes}
-use Rattle.format.specs.Rules.{Section}
-use Rattle.format.specs.Reading.{Fault, Outcome, refused, found, fault, need, andThen, told, idOf, stated, reading, rowCount, headerChecks}
+use lib.Dec.{leb}
+use lib.ListN.{length, drop}
+use lib.Seq.{sets}
+use borrow.Author.Tests.{le-leb, lt-leb}
+use Rattle.format.specs.Reading.{Fault, Outcome, refused, found, fault, need, andThen, told, stated, reading, rowCount}
 use Rattle.format.specs.Writer.{writeAnswer, draftAfter}
 use Rattle.format.specs.declared.Answer.{Answer}
 use Rattle.format.specs.declared.Answer.the-variants.{Accepted, Refused}
-use Rattle.format.proofs.Finding.{and-split}
-use Rattle.format.proofs.Tests.{tests-passed, need-passed, then-found}
-use Rattle.storing.specs.Storing.{Stored}
+use Rattle.format.proofs.Tests.{need-passed, then-found}
 use Rattle.storing.proofs.Stores.{sets-front}
-use Rattle.drafts.specs.Adding.{Standing, grown, appended, unfit, sectionAdded, subsectionAdded, lastPlace}
+use Rattle.drafts.specs.Adding.{grown, appended}
 
 -- ---- the answer taken apart
 
@@ -115,13 +112,13 @@ longer-refused {n} {p} {bs} d o w h k e a =
     (record { cause = r .cause; is = has-room d o w h k ∙ then-refused _ s; number = r .number; place = r .place })
 
 -- and where it is accepted it stands in the draft.
-pub longer-found : {n m q : ℕ} {bs new : List ℕ} (d : List ℕ) (o : ℕ) (w : List ℕ) → stated d + length w ≤ 3500
+pub longer-found : {n m : ℕ} {bs new : List ℕ} (d : List ℕ) (o : ℕ) (w : List ℕ) → stated d + length w ≤ 3500
     → stated d + length w ≤ length d → bs ≡ grown d o w → Accepted m ≡ told rowCount (reading false bs)
-    → n ≡ length bs → length bs ≤ length d → Stored d 0 bs new q
+    → n ≡ length bs → length bs ≤ length d → new ≡ sets d 0 bs
     → (Accepted n ≡ writeAnswer (appended d o w)) × (new ≡ draftAfter (appended d o w) d)
-longer-found {n} {m} {q} {bs} {new} d o w h k e a l i s =
+longer-found {n} {m} {bs} {new} d o w h k e a l i s =
     let r = told-found rowCount (reading false bs) a in
     let g : reading false (grown d o w) ≡ found (r .0) = ap (reading false) (sym e) ∙ r .1 in
     let b : appended d o w ≡ found bs = has-room d o w h k ∙ then-found _ g ∙ ap found (sym e) in
     let f = found-written (appended d o w) d bs b l in
-    (f .0, s .bytes ∙ sets-front d bs i ∙ f .1)
+    (f .0, s ∙ sets-front d bs i ∙ f .1)

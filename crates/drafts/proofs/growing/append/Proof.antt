@@ -3,6 +3,7 @@ use mathlib.Core.Path.{_≡_, sym, ap, _∙_}
 use Prim.Native.Nat.{ℕ, _+_}
 use native.Mathlib.Omega.{arith}
 use lib.ListN.{length, take}
+use lib.Seq.{length-take-le}
 use Rattle.drafts.proofs.Longer.{grown-long}
 use Rattle.drafts.proofs.Outcomes.{over-most, over-lent, longer-refused, longer-found}
 use borrow.Author.Needs.{needs}
@@ -80,12 +81,11 @@ array-share-prefix-longer c = search needs
 -- src/growing.rt:53:24
 slice-aggregate-read-draft : tie.Need-slice-aggregate-read-draft
 slice-aggregate-read-draft c =
-    let a = c .before .before .before .before .before .before .before .before .before .before .before .args in
+    let e : length (c .before .before .grow .last .0) ≡ 3500 = c .before .longer2 .given in
+    let k = c .before .before .before .before .before .before .if1 .left in
+    let s = c .before .before .before .before .before .before .before .before .before .before .before .pre .most in
     let n = c .before .before .before .before .before .before .before .two .ensures .0 in
-    let g = ap (λ (j : ℕ). take (j + length (a .part .now)) (c .before .before .grow .last .0)) n ∙ c .before .before .grow .ensures in
-    let l = grown-long (a .draft .now) (a .section) (a .part .now) (c .before .before .before .before .before .before .before .before .before .before .before .pre) in
-    let m = ap length g in
-    omega arith
+    sym (length-take-le _ (c .before .before .grow .last .0) (omega arith))
 
 -- src/growing.rt:53:9
 read-draft-requires : tie.Need-read-draft-requires
@@ -106,23 +106,24 @@ array-share-prefix-longer-2 c = search needs
 -- src/growing.rt:57:41
 slice-aggregate-put : tie.Need-slice-aggregate-put
 slice-aggregate-put c =
-    let a = c .before .before .before .before .before .before .before .before .before .before .before .before .before .before .before .before .before .args in
+    let e : length (c .before .before .before .before .before .before .before .before .grow .last .0) ≡ 3500 = c .before .before .before .before .before .before .before .longer2 .given in
+    let k = c .before .before .before .before .before .before .before .before .before .before .before .before .if1 .left in
+    let s = c .before .before .before .before .before .before .before .before .before .before .before .before .before .before .before .before .before .pre .most in
     let n = c .before .before .before .before .before .before .before .before .before .before .before .before .before .two .ensures .0 in
-    let g = ap (λ (j : ℕ). take (j + length (a .part .now)) (c .before .before .before .before .before .before .before .before .grow .last .0)) n ∙ c .before .before .before .before .before .before .before .before .grow .ensures in
-    let l = grown-long (a .draft .now) (a .section) (a .part .now) (c .before .before .before .before .before .before .before .before .before .before .before .before .before .before .before .before .before .pre) in
-    let m = ap length g in
-    omega arith
+    sym (length-take-le _ (c .before .before .before .before .before .before .before .before .grow .last .0) (omega arith))
 
 -- src/growing.rt:57:17
 put-requires : tie.Need-put-requires
 put-requires c κs =
-    let a = c .before .before .before .before .before .before .before .before .before .before .before .before .before .before .before .before .before .args in
-    let n = c .before .before .before .before .before .before .before .before .before .before .before .before .before .two .ensures .0 in
-    let g = ap (λ (j : ℕ). take (j + length (a .part .now)) (c .before .before .before .before .before .before .before .before .grow .last .0)) n ∙ c .before .before .before .before .before .before .before .before .grow .ensures in
-    let l = grown-long (a .draft .now) (a .section) (a .part .now) (c .before .before .before .before .before .before .before .before .before .before .before .before .before .before .before .before .before .pre) in
+    let start = c .before .before .before .before .before .before .before .before .before .before .before .before .before .before .before .before .before in
+    let a = start .args in
+    let grow = c .before .before .before .before .before .before .before .before in
+    let n = grow .before .before .before .before .before .two .ensures .0 in
+    let g = ap (λ (j : ℕ). take (j + length (a .part .now)) (grow .grow .last .0)) n ∙ grow .grow .ensures in
+    let l = grown-long (a .draft .now) (a .section) (a .part .now) (start .pre) in
     let m = ap length g in
-    let h = c .before .before .before .before .before .before .before .before .before .before .before .if2 .left in
-    let s = c .before .before .before .before .before .before .before .before .before .before .before .before .before .before .before .before .before .pre .there in
+    let h = grow .before .before .before .if2 .left in
+    let s = start .pre .there in
     omega arith
 
 -- src/growing.rt:58:30
@@ -136,15 +137,17 @@ same-length-3 c = search needs
 -- src/growing.rt:38:1
 returns-3 : tie.Need-returns-3
 returns-3 c =
-    let a = c .before .before .before .before .before .before .before .before .before .before .before .before .before .before .before .args in
-    let n = c .before .before .before .before .before .before .before .before .before .before .before .two .ensures .0 in
-    let g = ap (λ (j : ℕ). take (j + length (a .part .now)) (c .before .before .before .before .before .before .grow .last .0)) n ∙ c .before .before .before .before .before .before .grow .ensures in
-    let l = grown-long (a .draft .now) (a .section) (a .part .now) (c .before .before .before .before .before .before .before .before .before .before .before .before .before .before .before .pre) in
+    let start = c .before .before .before .before .before .before .before .before .before .before .before .before .before .before .before in
+    let a = start .args in
+    let grow = c .before .before .before .before .before .before in
+    let n = grow .before .before .before .before .before .two .ensures .0 in
+    let g = ap (λ (j : ℕ). take (j + length (a .part .now)) (grow .grow .last .0)) n ∙ grow .grow .ensures in
+    let l = grown-long (a .draft .now) (a .section) (a .part .now) (start .pre) in
     let m = ap length g in
-    let h = c .before .before .before .before .before .before .before .before .before .before .if1 .left in
-    let k = c .before .before .before .before .before .before .before .before .before .if2 .left in
-    let s = c .before .before .before .before .before .before .before .before .before .before .before .before .before .before .before .pre .most in
-    let t = c .before .before .before .before .before .before .before .before .before .before .before .before .before .before .before .pre .there in
+    let h = grow .before .before .before .before .if1 .left in
+    let k = grow .before .before .before .if2 .left in
+    let s = start .pre .most in
+    let t = start .pre .there in
     longer-refused (a .draft .now) (a .section) (a .part .now) (omega arith) (omega arith) g
     (sym (c .before .a .given .1) ∙ c .before .before .before .read-draft .ensures)
 
@@ -155,17 +158,19 @@ same-length-4 c = search needs
 -- src/growing.rt:38:1
 returns-4 : tie.Need-returns-4
 returns-4 c =
-    let a = c .before .before .before .before .before .before .before .before .before .before .before .before .before .before .before .before .before .before .before .before .args in
-    let n = c .before .before .before .before .before .before .before .before .before .before .before .before .before .before .before .before .two .ensures .0 in
-    let g = ap (λ (j : ℕ). take (j + length (a .part .now)) (c .before .before .before .before .before .before .before .before .before .before .before .grow .last .0)) n ∙ c .before .before .before .before .before .before .before .before .before .before .before .grow .ensures in
-    let l = grown-long (a .draft .now) (a .section) (a .part .now) (c .before .before .before .before .before .before .before .before .before .before .before .before .before .before .before .before .before .before .before .before .pre) in
+    let start = c .before .before .before .before .before .before .before .before .before .before .before .before .before .before .before .before .before .before .before .before in
+    let a = start .args in
+    let grow = c .before .before .before .before .before .before .before .before .before .before .before in
+    let n = grow .before .before .before .before .before .two .ensures .0 in
+    let g = ap (λ (j : ℕ). take (j + length (a .part .now)) (grow .grow .last .0)) n ∙ grow .grow .ensures in
+    let l = grown-long (a .draft .now) (a .section) (a .part .now) (start .pre) in
     let m = ap length g in
-    let h = c .before .before .before .before .before .before .before .before .before .before .before .before .before .before .before .if1 .left in
-    let k = c .before .before .before .before .before .before .before .before .before .before .before .before .before .before .if2 .left in
-    let s = c .before .before .before .before .before .before .before .before .before .before .before .before .before .before .before .before .before .before .before .before .pre .most in
-    let t = c .before .before .before .before .before .before .before .before .before .before .before .before .before .before .before .before .before .before .before .before .pre .there in
+    let h = grow .before .before .before .before .if1 .left in
+    let k = grow .before .before .before .if2 .left in
+    let s = start .pre .most in
+    let t = start .pre .there in
     longer-found (a .draft .now) (a .section) (a .part .now) (omega arith) (omega arith) g
-    (sym (c .before .before .before .before .before .before .a2 .given .1) ∙ c .before .before .before .before .before .before .before .before .read-draft .ensures) (omega arith) (omega arith) (c .before .before .put .ensures)
+    (sym (c .before .before .before .before .before .before .a2 .given .1) ∙ c .before .before .before .before .before .before .before .before .read-draft .ensures) (omega arith) (omega arith) (c .before .before .put .ensures .bytes)
 
 pub append-spec : {M : Type 1} → statement M
 append-spec =
