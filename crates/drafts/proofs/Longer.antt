@@ -47,7 +47,7 @@ stored-behind {last} {p} a b w e h s =
     ap (take (p + length w)) (r ∙ ap (λ (y : List ℕ). y ++ w ++ drop (p + length w) (a ++ b)) (take-at a b p e))
     ∙ take-at (a ++ w) (drop (p + length w) (a ++ b)) (p + length w) (omega arith)
 
--- How long it is.
+-- The longer draft has the bytes of both.
 pub grown-long : (d : List ℕ) (o : ℕ) (w : List ℕ) → Standing d o → length (grown d o w) ≡ stated d + length w
 grown-long d o w s =
     let a : List ℕ = take (stated d) d in
