@@ -196,48 +196,42 @@ fn output_that_cannot_be_written() {
     }
 }
 
-/// In a copy of what list needs, with a stand-in for the toolchain: the
-/// program is built where it is missing or older than a source, else not.
-#[test]
-fn the_program_is_built_when_a_source_is_newer() {
+/// A folder with what list needs: a source, and a stand-in for the toolchain
+/// that copies the program.
+fn folder_with_list() -> Folder {
     let folder = Folder::new("build");
-    let path = |name: &str| folder.0.join(name);
     for name in ["bin", "crates", "target/bin"] {
-        create_dir_all(path(name)).expect("a folder can be made");
+        create_dir_all(folder.0.join(name)).expect("a folder can be made");
     }
     folder.file("crates.txt", b"");
     folder.file("crates/main.rt", b"");
-    let built = path("target/bin/list_token").display().to_string();
-    let script = format!(
-        "#!/bin/sh\necho built \"$@\"\ncp '{}' '{built}'\n",
-        list_token().display()
-    );
+    folder.file("list", &read(project().join("list")).expect("it is there"));
+    let program = list_token().display().to_string();
+    let script = format!("#!/bin/sh\necho built \"$@\"\ncp '{program}' target/bin/list_token\n");
     folder.file("bin/rt", script.as_bytes());
+    folder
+}
+
+#[test]
+fn the_program_is_built_when_a_source_is_newer() {
+    let folder = folder_with_list();
     let run = |before: &str| {
-        let line = format!("chmod +x bin/rt; {before}; PATH=$PWD/bin:$PATH ./list \"$0\"");
+        let line = format!("{before}; PATH=$PWD/bin:$PATH ./list \"$0\"");
         let output = Command::new("sh")
             .args(["-c", &line, &sample("smallest.token")])
             .current_dir(&folder.0)
             .output()
             .expect("sh runs");
-        assert!(
-            output.stdout.starts_with(b"token external 80"),
-            "{output:?}"
-        );
+        let good = output.stdout.starts_with(b"token external 80");
+        assert!(good, "{output:?}");
         String::from_utf8(output.stderr).expect("plain")
     };
-    let copy = format!(
-        "cp '{}' .; touch -d 2020-01-01 crates/* crates crates.txt",
-        sample("../list")
-    );
-    let message = "built check list_token\n";
-    assert_eq!(run(&copy), message);
+    let built = "built check list_token\n";
+    let old = "touch -d 2020-01-01 crates crates/main.rt crates.txt";
+    assert_eq!(run(&format!("chmod +x list bin/rt; {old}")), built);
     assert_eq!(run("true"), "");
-    assert_eq!(run("touch -d '1 minute' crates/main.rt"), message);
-    assert_eq!(run("touch -d 2020-01-01 crates/main.rt"), "");
-    assert_eq!(run("touch -d '1 minute' crates.txt"), message);
-    assert_eq!(
-        run("touch -d 2020-01-01 crates.txt; rm target/bin/list_token"),
-        message
-    );
+    assert_eq!(run("touch -d '1 minute' crates/main.rt"), built);
+    assert_eq!(run(old), "");
+    assert_eq!(run("touch -d '1 minute' crates.txt"), built);
+    assert_eq!(run(&format!("{old}; rm target/bin/list_token")), built);
 }
