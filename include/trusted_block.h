@@ -38,7 +38,7 @@ enum {
     TB_TABLE = 1200     /* numbers of a table with room for any token, 300 rows */
 };
 
-/* The numbers given back. The first fault in the order of the bytes gives the answer. */
+/* The numbers given back. The first test that fails gives the answer: the header's, then section by section. */
 enum {
     TB_ACCEPTED = 0,
     TB_NO_HEADER = 1,          /* fewer than 8 bytes */
