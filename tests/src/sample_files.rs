@@ -3,8 +3,8 @@
 
 use crate::kinds::{EXTERNAL, INTERNAL, LONGEST};
 use crate::parts::Part;
-// The writer that builds them.
-use crate::writer::{add, finish, start};
+// The proved writer builds them.
+use crate::library_writer::{add, finish, start};
 
 /// A token as a file of samples/, without the file's ending.
 pub struct Sample {
