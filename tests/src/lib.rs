@@ -13,6 +13,8 @@ pub mod generate;
 pub mod kinds;
 /// The proved library, through its C calls.
 pub mod library;
+/// The proved writer, through its C calls.
+pub mod library_writer;
 /// The listing of a token.
 pub mod listing;
 /// Parts with their fields, and the written form of a choice of parts.
@@ -21,6 +23,8 @@ pub mod parts;
 pub mod random;
 /// The reading of tokens and drafts, and the table.
 pub mod reader;
+/// The files of samples/, built by the writer.
+pub mod sample_files;
 /// Tokens written out by hand.
 pub mod samples;
 /// Views of fields, and the walk from row to row.
