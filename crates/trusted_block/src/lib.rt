@@ -1,4 +1,6 @@
 // The calls for host programs in C. Names and order of parameters stand in include/trusted_block.h.
+pub mod walk; // walk.rt: the walk over the rows, and a row by its number
+
 ghost use mathlib.Core.Path.{_≡_};
 ghost use Rattle.format.specs.Reading.{answer};
 ghost use Rattle.format.specs.Table.{tableAnswer, tableAfter};
