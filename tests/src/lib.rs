@@ -13,6 +13,8 @@ pub mod generate;
 pub mod kinds;
 /// The proved library, through its C calls.
 pub mod library;
+/// The proved library's writer, through its C calls.
+pub mod library_writer;
 /// The listing of a token.
 pub mod listing;
 /// Parts with their fields, and the written form of a choice of parts.
