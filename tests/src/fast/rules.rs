@@ -40,7 +40,7 @@ fn is_key_length(length: u8) -> bool {
 
 /// A rule, whose length is at least 20.
 #[inline]
-pub fn rule(
+pub fn rule<const ALL: bool>(
     section: &[u8],
     place: usize,
     rule_ids: &mut RuleIds,
@@ -68,17 +68,21 @@ pub fn rule(
         return refuse(9, place);
     }
     progress.rows += 1;
+    if !ALL {
+        progress.last = place as u32;
+    }
     if subsections.is_empty() && flags == 0 {
         return Ok(());
     }
-    rule_subsections(subsections, place, flags == 1, progress)
+    rule_subsections(subsections, place, ALL && flags == 1, progress)
 }
 
-/// The subsections of the rule at `rule_place`, its own tests after them.
+/// The subsections of the rule at `rule_place`, its own tests after them;
+/// `needs_export` asks for a 0003.
 fn rule_subsections(
     subsections: &[u8],
     rule_place: usize,
-    export: bool,
+    needs_export: bool,
     progress: &mut Progress,
 ) -> Judged<()> {
     const LEAST: [u8; 5] = [8, 14, 12, 14, 10];
@@ -104,7 +108,7 @@ fn rule_subsections(
     if mask != 0 && mask < minimum {
         return refuse(18, mask_place);
     }
-    if export && minimum == 0 {
+    if needs_export && minimum == 0 {
         return refuse(20, rule_place);
     }
     Ok(())

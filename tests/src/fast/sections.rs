@@ -40,7 +40,11 @@ fn is_below(exponent: &[u8], modulus: &[u8]) -> bool {
 }
 
 #[inline]
-pub fn information(section: &[u8], section_place: usize, progress: &mut Progress) -> Judged<()> {
+pub fn information<const ALL: bool>(
+    section: &[u8],
+    section_place: usize,
+    progress: &mut Progress,
+) -> Judged<()> {
     const LEAST: [u8; 2] = [62, 16];
     let (fixed, mut rest) = section.split_at(10);
     if fixed[4] | fixed[5] != 0 {
@@ -61,7 +65,7 @@ pub fn information(section: &[u8], section_place: usize, progress: &mut Progress
         rest = after;
         place += length;
     }
-    if met & (1 << 1) == 0 {
+    if ALL && met & (1 << 1) == 0 {
         return refuse(20, section_place);
     }
     Ok(())
