@@ -14,7 +14,8 @@ use sections::{information, public_key};
 /// The number of a fault and its place.
 type Judged<T> = Result<T, Answer>;
 
-/// A token is judged by all rules, a draft by all but 20.
+/// A token is judged by all rules, a draft by all but 20. The functions that
+/// judge are compiled for each, so that the one costs the other nothing.
 const WHOLE: bool = true;
 const DRAFT: bool = false;
 

@@ -2,6 +2,7 @@
 
 use super::{refuse, subsection_frame, two, Judged, Progress};
 
+#[inline(always)]
 pub fn public_key(section: &[u8], place: usize) -> Judged<()> {
     let (x, bits, y) = (two(section, 6), two(section, 8), two(section, 10));
     if section.len() != 16 + x + y {
@@ -85,6 +86,7 @@ fn protection(subsection: &[u8], place: usize, external: bool) -> Judged<()> {
     Ok(())
 }
 
+#[inline(always)]
 fn dates(subsection: &[u8], place: usize) -> Judged<()> {
     let Ok([_, _, _, _, _, reserved, f0, f1, a, b, c, d, e, f, g, h]) =
         <[u8; 16]>::try_from(subsection)
