@@ -23,6 +23,8 @@ pub mod parts;
 pub mod random;
 /// The reading of tokens and drafts, and the table.
 pub mod reader;
+/// The files of samples/, built by the writer.
+pub mod sample_files;
 /// Tokens written out by hand.
 pub mod samples;
 /// Views of fields, and the walk from row to row.

@@ -1,4 +1,8 @@
 // The calls for host programs in C. Names and order of parameters stand in include/trusted_block.h.
+mod drafts; // drafts.rt: the start and the finish of a draft
+mod sections; // sections.rt: the additions of sections
+mod subsections; // subsections.rt: the additions of subsections
+
 ghost use mathlib.Core.Path.{_≡_};
 ghost use Rattle.format.specs.Reading.{answer};
 ghost use Rattle.format.specs.Table.{tableAnswer, tableAfter};
@@ -11,7 +15,7 @@ use reading::read;
 use reading::read_table;
 
 // The two numbers of an answer.
-fn give(a: Answer, second: &mut u32) -> u32
+pub(crate) fn give(a: Answer, second: &mut u32) -> u32
     ensures number { λ r. ⌜ r ≡ numberOf a ⌝ }
     ensures second { λ _. ⌜ now (second .exit) ≡ secondOf a ⌝ }
 {

@@ -3,6 +3,7 @@
 
 pub mod twins;
 
+use std::path::{Path, PathBuf};
 use trusted_block_tests::fast::{fast_fill, fast_read};
 use trusted_block_tests::library;
 use trusted_block_tests::reader::{read_answer, read_table, Answer};
@@ -12,6 +13,24 @@ const UNTOUCHED: u32 = 0xDEAD_BEEF;
 
 pub fn answer(number: u32, second: u32) -> Answer {
     Answer { number, second }
+}
+
+/// The project's folder.
+pub fn project() -> PathBuf {
+    let package = Path::new(env!("CARGO_MANIFEST_DIR"));
+    package.parent().expect("tests/ stands in it").to_path_buf()
+}
+
+/// The program, which `rt check list_token` makes. LIST_TOKEN names another.
+pub fn list_token() -> PathBuf {
+    let built = project().join("target/bin/list_token");
+    let program = std::env::var_os("LIST_TOKEN").map_or(built, PathBuf::from);
+    assert!(
+        program.is_file(),
+        "{} is missing: run `rt check list_token` in the project's folder first",
+        program.display()
+    );
+    program
 }
 
 /// How many tokens the generated tests take together.

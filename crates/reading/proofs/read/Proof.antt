@@ -3,51 +3,54 @@ use mathlib.Core.Path.{_≡_, sym, ap, _∙_}
 use mathlib.Core.Bool.{true}
 use native.Mathlib.Omega.{arith}
 use Rattle.format.specs.Rules.{external}
+use Rattle.format.specs.Reading.{answer}
 use Rattle.reading.specs.Progress.{sectionsAnswer}
-use Rattle.reading.proofs.Headers.{id-first, header-stops, header-lengths, header-goes}
+use Rattle.reading.proofs.Headers.{id-first, header-stops, header-lengths, whole-length, whole-goes}
 use borrow.Author.Needs.{needs}
 use Rattle.reading.proofs.read.Statement.{statement}
 use Rattle.reading.proofs.read.Tie as tie
 use Rattle.reading.proofs.read.Reads as reads
 use Rattle.reading.proofs.read.Lts as lts
-use Rattle.reading.proofs.header.token_header.Reads as token-header-reads
+use Rattle.reading.proofs.header.header.Reads as header-reads
 use Rattle.reading.proofs.whole.sections_of.Reads as sections-of-reads
 
 -- src/lib.rt:19:9
-token-header-requires : tie.Need-token-header-requires
-token-header-requires c κs = search needs
+header-requires : tie.Need-header-requires
+header-requires c κs = search needs
 
 -- src/lib.rt:21:9
 returns : tie.Need-returns
+unfolding answer
 returns c =
-    header-stops (c .before .before .before .args .token .now) (c .before .token-header .ensures) (c .if1 .taken)
+    header-stops true (c .before .before .before .args .token .now) (c .before .header .ensures) (c .if1 .taken)
 
 -- src/lib.rt:23:24
 shared-slice-read-sections-of : tie.Need-shared-slice-read-sections-of
 shared-slice-read-sections-of c =
-    let l = header-lengths (c .before .before .before .before .args .token .now) (c .before .before .token-header .ensures) (c .before .if1 .left) in
-    omega (arith, l .0)
+    let l = header-lengths true (c .before .before .before .before .args .token .now) (c .before .before .header .ensures) (c .before .if1 .left) in
+    omega (arith, l .front)
 
 -- src/lib.rt:23:5
 sections-of-requires : tie.Need-sections-of-requires
 sections-of-requires c κs =
-    let l = header-lengths (c .before .before .before .before .args .token .now) (c .before .before .token-header .ensures) (c .before .if1 .left) in
-    (l .0, l .1 .0)
+    let l = header-lengths true (c .before .before .before .before .args .token .now) (c .before .before .header .ensures) (c .before .if1 .left) in
+    let w = whole-length (c .before .before .before .before .args .token .now) (c .before .before .header .ensures) (c .before .if1 .left) in
+    (l .front, omega (arith, w, l .most))
 
 -- src/lib.rt:16:1
 returns-2 : tie.Need-returns-2
 returns-2 c =
-    let l = header-lengths (c .before .before .before .before .before .args .token .now) (c .before .before .before .token-header .ensures) (c .before .before .if1 .left) in
+    let l = header-lengths true (c .before .before .before .before .before .args .token .now) (c .before .before .before .header .ensures) (c .before .before .if1 .left) in
     let s = c .before .before .before .before .before .args .token .now in
     c .sections-of .ensures
-    ∙ ap (λ i. sectionsAnswer s true (external i)) (sym (id-first s (omega (arith, l .0))))
-    ∙ sym (header-goes s (c .before .before .before .token-header .ensures) (c .before .before .if1 .left))
+    ∙ ap (λ i. sectionsAnswer s true (external i)) (sym (id-first s (omega (arith, l .front))))
+    ∙ sym (whole-goes s (c .before .before .before .header .ensures) (c .before .before .if1 .left))
 
 pub read-spec : {M : Type 1} → statement M
 read-spec =
     tie.close
     (tie.spec
-    token-header-requires
+    header-requires
     returns
     shared-slice-read-sections-of
     sections-of-requires

@@ -1,0 +1,91 @@
+-- The longer draft as bytes: lengths restated in it, and a part stored behind it. Assumes nothing.
+use mathlib.Core.Path.{_≡_, sym, ap, ap₂, _∙_}
+use mathlib.Core.List.{List, _++_}
+use Prim.Native.Nat.{ℕ, suc, _+_, _-_, _/_, _%_, _≤_}
+use native.Mathlib.Omega.{arith}
+use lib.ListN.{length, take, drop, set, length-append, length-drop, length-set}
+use lib.Seq.{sets, sets-eq, take-at, drop-drop, length-take-le, set-append-left, lt-length-set}
+use Rattle.format.specs.Bytes.{number, bytesAt, bigEndian}
+use Rattle.format.specs.Reading.{stated}
+use Rattle.format.proofs.Changes.{restate}
+use Rattle.storing.specs.Storing.{Stored}
+use Rattle.storing.proofs.Stores.{sets-front}
+use Rattle.drafts.specs.Adding.{Standing, grown}
+
+-- ---- another length in a part
+
+-- A number stored behind the first two bytes of a part is its new length.
+pub length-stored : {old new : List ℕ} {next : ℕ} (at n : ℕ) → Stored old (at + 2) (bigEndian 2 n) new next → new ≡ restate at n old
+length-stored {old} at n s =
+    let e : suc (at + 2) ≡ at + 3 = omega arith in
+    s .bytes ∙ ap (λ (k : ℕ). set (set old (at + 2) (n / 256 % 256)) k (n % 256)) e
+
+-- It leaves the number of bytes as it was,
+pub restate-long : (at n : ℕ) (bs : List ℕ) → length (restate at n bs) ≡ length bs
+restate-long at n bs = length-set (set bs (at + 2) (n / 256 % 256)) (at + 3) (n % 256) ∙ length-set bs (at + 2) (n / 256 % 256)
+
+-- and whatever stands behind the bytes that hold the part.
+pub restate-front : (at n : ℕ) (a b : List ℕ) → at + 4 ≤ length a → restate at n (a ++ b) ≡ restate at n a ++ b
+restate-front at n a b h =
+    ap (λ (y : List ℕ). set y (at + 3) (n % 256)) (set-append-left a b (at + 2) (n / 256 % 256) (omega arith))
+    ∙ set-append-left (set a (at + 2) (n / 256 % 256)) b (at + 3) (n % 256) (lt-length-set a (at + 2) (n / 256 % 256) (omega arith))
+
+-- The length that the part at a place states, read in place.
+pub stated-at : (d : List ℕ) (o : ℕ) → number (bytesAt d (o + 2) 2) ≡ stated (drop o d)
+unfolding bytesAt
+stated-at d o = ap (λ (y : List ℕ). number (take 2 y)) (sym (drop-drop 2 o d))
+
+-- ---- the longer draft
+
+-- A text stored where the first bytes end, and what is then in front of its end.
+pub stored-behind : {last : List ℕ} {p : ℕ} (a b w : List ℕ) → length a ≡ p → length w ≤ length b → last ≡ sets (a ++ b) p w
+    → take (p + length w) last ≡ a ++ w
+stored-behind {last} {p} a b w e h s =
+    let n = length-append a b in
+    let m = length-append a w in
+    let r : last ≡ take p (a ++ b) ++ w ++ drop (p + length w) (a ++ b) = s ∙ sets-eq w (a ++ b) p (omega arith) in
+    ap (take (p + length w)) (r ∙ ap (λ (y : List ℕ). y ++ w ++ drop (p + length w) (a ++ b)) (take-at a b p e))
+    ∙ take-at (a ++ w) (drop (p + length w) (a ++ b)) (p + length w) (omega arith)
+
+-- The longer draft has the bytes of both.
+pub grown-long : (d : List ℕ) (o : ℕ) (w : List ℕ) → Standing d o → length (grown d o w) ≡ stated d + length w
+grown-long d o w s =
+    let a : List ℕ = take (stated d) d in
+    let b : List ℕ = restate 0 (stated d + length w) a in
+    let l = length-take-le (stated d) d (s .there) in
+    let l₁ = restate-long 0 (stated d + length w) a in
+    let l₂ = restate-long o (stated (drop o d) + length w) b in
+    let l₃ = length-append (restate o (stated (drop o d) + length w) b) w in
+    omega arith
+
+-- The draft's bytes, the two lengths and the part, stored one after the other, give the longer draft.
+pub grown-stored : {z first second third last : List ℕ} {n m p : ℕ} (d : List ℕ) (o : ℕ) (w : List ℕ) → Standing d o
+    → stated d + length w ≤ length z
+    → n ≡ stated d → m ≡ stated (drop o d)
+    → Stored z 0 (take n d) first p
+    → second ≡ restate 0 (n + length w) first
+    → third ≡ restate o (m + length w) second
+    → last ≡ sets third p w
+    → take (stated d + length w) last ≡ grown d o w
+grown-stored {z} {first} {second} {third} {last} {n} {m} {p} d o w st room en em s e f t =
+    let a : List ℕ = take n d in
+    let b : List ℕ = drop (length a) z in
+    let x : List ℕ = restate o (m + length w) (restate 0 (n + length w) a) in
+    let k₁ = st .least in
+    let k₂ = st .there in
+    let k₃ = st .head in
+    let la : length a ≡ n = length-take-le n d (omega arith) in
+    let lb : length b ≡ length z - length a = length-drop (length a) z in
+    let lx : length (restate 0 (n + length w) a) ≡ length a = restate-long 0 (n + length w) a in
+    let ly : length x ≡ length (restate 0 (n + length w) a) = restate-long o (m + length w) (restate 0 (n + length w) a) in
+    let pl = s .place in
+    let r₁ : first ≡ a ++ b = s .bytes ∙ sets-front z a (omega arith) in
+    let r₂ : second ≡ restate 0 (n + length w) a ++ b =
+    e ∙ ap (restate 0 (n + length w)) r₁ ∙ restate-front 0 (n + length w) a b (omega arith) in
+    let r₃ : third ≡ x ++ b =
+    f ∙ ap (restate o (m + length w)) r₂ ∙ restate-front o (m + length w) (restate 0 (n + length w) a) b (omega arith) in
+    let u : last ≡ sets (x ++ b) p w = t ∙ ap (λ (y : List ℕ). sets y p w) r₃ in
+    let pn : stated d + length w ≡ p + length w = omega arith in
+    ap (λ (j : ℕ). take j last) pn
+    ∙ stored-behind x b w (omega arith) (omega arith) u
+    ∙ ap₂ (λ (i j : ℕ). restate o (j + length w) (restate 0 (i + length w) (take i d)) ++ w) en em

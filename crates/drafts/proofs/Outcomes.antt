@@ -1,0 +1,124 @@
+-- What an outcome says of the answer and of the lent draft. Assumes nothing.
+use mathlib.Core.Path.{_≡_, refl, sym, ap, ap₂, _∙_}
+use mathlib.Core.Bool.{Bool, true, false, _&&_}
+use mathlib.Core.List.{List, _++_}
+use Prim.Native.Nat.{ℕ, _+_, _<_, _≤_}
+use native.Mathlib.Omega.{arith}
+use lib.Dec.{leb}
+use lib.ListN.{length, drop}
+use lib.Seq.{sets}
+use borrow.Author.Tests.{le-leb, lt-leb}
+use Rattle.format.specs.Reading.{Fault, Outcome, refused, found, fault, need, andThen, told, stated, reading, rowCount}
+use Rattle.format.specs.Writer.{writeAnswer, draftAfter}
+use Rattle.format.specs.declared.Answer.{Answer}
+use Rattle.format.specs.declared.Answer.the-variants.{Accepted, Refused}
+use Rattle.format.proofs.Tests.{need-passed, then-found}
+use Rattle.storing.proofs.Stores.{sets-front}
+use Rattle.drafts.specs.Adding.{grown, appended}
+
+-- ---- the answer taken apart
+
+-- A refused answer comes from a refusal with its number and its place,
+pub record RefusedBy {A : Type 0} (o : Outcome A) (n p : ℕ) : Type 0 where
+  pub cause : Fault
+  pub is : o ≡ refused cause
+  pub number : n ≡ cause .number
+  pub place : p ≡ cause .part
+
+pub told-refused : {A : Type 0} {n p : ℕ} (count : A → ℕ) (o : Outcome A) → Refused n p ≡ told count o → RefusedBy o n p
+unfolding told
+told-refused {A} {n} {p} count (refused f) e =
+    let a : n ≡ f .number = cc in
+    let b : p ≡ f .part = cc in
+    record { cause = f; is = refl; number = a; place = b }
+told-refused count (found a) e = absurd (let y : _≡_ {A = ℕ} 0 1 = cc in omega arith)
+
+-- and an accepted one from something found.
+pub told-found : {A : Type 0} {n : ℕ} (count : A → ℕ) (o : Outcome A) → Accepted n ≡ told count o → (a : A) × (o ≡ found a)
+unfolding told
+told-found count (refused f) e = absurd (let y : _≡_ {A = ℕ} 0 1 = cc in omega arith)
+told-found count (found a) e = (a, refl)
+
+-- A refusal goes straight out.
+pub then-refused : {A B : Type 0} {o : Outcome A} (next : A → Outcome B) {f : Fault} → o ≡ refused f → andThen o next ≡ refused f
+unfolding andThen
+then-refused next e = rw e
+
+-- A failed test refuses.
+pub need-failed : {A : Type 0} (b : Bool) (f : Fault) (rest : Outcome A) → b ≡ false → need b f rest ≡ refused f
+unfolding need
+need-failed b f rest e = rw e
+
+-- ---- the answer of a call that writes, and the lent draft
+
+-- A refusal is told with its number and place, and leaves the draft as it was.
+pub refused-written : {n p : ℕ} (o : Outcome (List ℕ)) (d : List ℕ) → RefusedBy o n p → (Refused n p ≡ writeAnswer o) × (d ≡ draftAfter o d)
+unfolding told
+refused-written o d r =
+    (ap₂ Refused (r .number) (r .place) ∙ sym (ap writeAnswer (r .is)), sym (ap (λ (y : Outcome (List ℕ)). draftAfter y d) (r .is)))
+
+-- What is found is told with its length, and stands in the draft from its start on.
+pub found-written : {n : ℕ} (o : Outcome (List ℕ)) (d bs : List ℕ) → o ≡ found bs → n ≡ length bs
+    → (Accepted n ≡ writeAnswer o) × (bs ++ drop (length bs) d ≡ draftAfter o d)
+unfolding told
+found-written o d bs e l = (ap Accepted l ∙ sym (ap writeAnswer e), sym (ap (λ (y : Outcome (List ℕ)). draftAfter y d) e))
+
+-- ---- the draft with a part behind it
+
+-- The test for room.
+abbrev fitting : List ℕ → List ℕ → Bool
+fitting d w = leb (stated d + length w) 3500 && leb (stated d + length w) (length d)
+
+no-room : {n : ℕ} (d : List ℕ) (o : ℕ) (w : List ℕ) → n ≡ stated d → fitting d w ≡ false
+    → (Refused 23 n ≡ writeAnswer (appended d o w)) × (d ≡ draftAfter (appended d o w) d)
+unfolding appended
+no-room d o w e b =
+    refused-written (appended d o w) d
+    (record { cause = fault 23 (stated d) 0; is = need-failed (fitting d w) _ _ b; number = refl; place = e })
+
+-- 23: the longer draft would have more bytes than a token may have,
+pub over-most : {n : ℕ} (d : List ℕ) (o : ℕ) (w : List ℕ) → n ≡ stated d → 3500 < stated d + length w
+    → (Refused 23 n ≡ writeAnswer (appended d o w)) × (d ≡ draftAfter (appended d o w) d)
+over-most d o w e h =
+    no-room d o w e (ap (λ (b : Bool). b && leb (stated d + length w) (length d)) (lt-leb (stated d + length w) 3500 h))
+
+-- or than were lent.
+pub over-lent : {n : ℕ} (d : List ℕ) (o : ℕ) (w : List ℕ) → n ≡ stated d → length d < stated d + length w
+    → (Refused 23 n ≡ writeAnswer (appended d o w)) × (d ≡ draftAfter (appended d o w) d)
+over-lent d o w e h =
+    no-room d o w e
+    (ap (λ (b : Bool). leb (stated d + length w) 3500 && b) (lt-leb (stated d + length w) (length d) h) ∙ last (leb (stated d + length w) 3500))
+  where
+    last : (b : Bool) → (b && false) ≡ false
+    last true = refl
+    last false = refl
+
+-- Where there is room, the longer draft is read.
+has-room : (d : List ℕ) (o : ℕ) (w : List ℕ) → stated d + length w ≤ 3500 → stated d + length w ≤ length d
+    → appended d o w ≡ andThen (reading false (grown d o w)) (λ ts. found (grown d o w))
+unfolding appended
+has-room d o w h k =
+    need-passed (fitting d w) _ _
+    (ap₂ (λ (a b : Bool). a && b) (le-leb (stated d + length w) 3500 h) (le-leb (stated d + length w) (length d) k))
+
+-- Its refusal is the answer,
+pub longer-refused : {n p : ℕ} {bs : List ℕ} (d : List ℕ) (o : ℕ) (w : List ℕ) → stated d + length w ≤ 3500
+    → stated d + length w ≤ length d → bs ≡ grown d o w → Refused n p ≡ told rowCount (reading false bs)
+    → (Refused n p ≡ writeAnswer (appended d o w)) × (d ≡ draftAfter (appended d o w) d)
+longer-refused {n} {p} {bs} d o w h k e a =
+    let r = told-refused rowCount (reading false bs) a in
+    let s : reading false (grown d o w) ≡ refused (r .cause) = ap (reading false) (sym e) ∙ r .is in
+    refused-written (appended d o w) d
+    (record { cause = r .cause; is = has-room d o w h k ∙ then-refused _ s; number = r .number; place = r .place })
+
+-- and where it is accepted it stands in the draft.
+pub longer-found : {n m : ℕ} {bs new : List ℕ} (d : List ℕ) (o : ℕ) (w : List ℕ) → stated d + length w ≤ 3500
+    → stated d + length w ≤ length d → bs ≡ grown d o w → Accepted m ≡ told rowCount (reading false bs)
+    → n ≡ length bs → length bs ≤ length d → new ≡ sets d 0 bs
+    → (Accepted n ≡ writeAnswer (appended d o w)) × (new ≡ draftAfter (appended d o w) d)
+longer-found {n} {m} {bs} {new} d o w h k e a l i s =
+    let r = told-found rowCount (reading false bs) a in
+    let g : reading false (grown d o w) ≡ found (r .0) = ap (reading false) (sym e) ∙ r .1 in
+    let b : appended d o w ≡ found bs = has-room d o w h k ∙ then-found _ g ∙ ap found (sym e) in
+    let f = found-written (appended d o w) d bs b l in
+    (f .0, s ∙ sets-front d bs i ∙ f .1)

@@ -1,0 +1,20 @@
+// The reading of a lent draft: only its first bytes, as many as its header states, and under all rules but 20.
+ghost use mathlib.Core.Path.{_≡_};
+ghost use mathlib.Core.Bool.{false};
+ghost use Rattle.format.specs.Reading.{reading, rowCount, told};
+use crate::header::header;
+use crate::whole::sections_of;
+use fields::two;
+use format::Answer;
+
+// The answer of reading a lent draft: 0 and the rows of its parts, or the first fault and its place.
+pub fn read_draft(draft: &[u8]) -> Answer
+    ensures { λ r. ⌜ r ≡ told rowCount (reading false (now (draft .entry))) ⌝ }
+{
+    let f = header(draft, false);
+    if f != 0 {
+        return Answer::Refused(f, 0);
+    }
+    let n = two(draft, 2);
+    sections_of(&draft[..n], draft[0] == 30, false)
+}

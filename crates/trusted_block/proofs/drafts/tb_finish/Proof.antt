@@ -1,0 +1,25 @@
+-- The answer as two numbers.
+use mathlib.Core.Path.{ap, _∙_}
+use Rattle.trusted_block.specs.Numbers.{numberOf, secondOf}
+use borrow.Author.Needs.{needs}
+use Rattle.trusted_block.proofs.drafts.tb_finish.Statement.{statement}
+use Rattle.trusted_block.proofs.drafts.tb_finish.Tie as tie
+use Rattle.trusted_block.proofs.drafts.tb_finish.Reads as reads
+use Rattle.trusted_block.proofs.drafts.tb_finish.Lts as lts
+use Rattle.trusted_block.proofs.give.Reads as give-reads
+use Rattle.writer.proofs.finish.Reads as finish-reads
+
+-- src/drafts.rt:23:10
+finish-requires : tie.Need-finish-requires
+finish-requires c κs = search needs
+
+-- src/drafts.rt:23:5
+give-requires : tie.Need-give-requires
+give-requires c κs = search needs
+
+-- src/drafts.rt:18:1
+returns : tie.Need-returns
+returns c = (c .give .ensures .0 ∙ ap numberOf (c .before .before .finish .ensures), c .give .ensures .1 ∙ ap secondOf (c .before .before .finish .ensures))
+
+pub tb-finish-spec : {M : Type 1} → statement M
+tb-finish-spec = tie.close (tie.spec finish-requires give-requires returns)

@@ -1,0 +1,29 @@
+-- The answer as two numbers, and what the draft then holds.
+use borrow.Author.Needs.{needs}
+use Rattle.trusted_block.proofs.Given.{given}
+use Rattle.trusted_block.proofs.sections.tb_add_application_data.Statement.{statement}
+use Rattle.trusted_block.proofs.sections.tb_add_application_data.Tie as tie
+use Rattle.trusted_block.proofs.sections.tb_add_application_data.Reads as reads
+use Rattle.trusted_block.proofs.sections.tb_add_application_data.Lts as lts
+use Rattle.trusted_block.proofs.give.Reads as give-reads
+use Rattle.writer.proofs.sections.application_data.Reads as application-data-reads
+
+-- src/sections.rt:56:10
+application-data-requires : tie.Need-application-data-requires
+application-data-requires c κs = search needs
+
+-- src/sections.rt:56:5
+give-requires : tie.Need-give-requires
+give-requires c κs = search needs
+
+-- src/sections.rt:50:1
+same-length : tie.Need-same-length
+same-length c = search needs
+
+-- src/sections.rt:50:1
+returns : tie.Need-returns
+returns c = given (c .give .ensures) (c .before .before .before .before .application-data .ensures)
+
+pub tb-add-application-data-spec : {M : Type 1} → statement M
+tb-add-application-data-spec =
+    tie.close (tie.spec application-data-requires give-requires same-length returns)

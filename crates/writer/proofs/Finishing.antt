@@ -1,0 +1,72 @@
+-- Finishing a draft: its own fault, else that of its bytes as a token, else its length.
+use mathlib.Core.Path.{_≡_, refl, sym, ap, _∙_}
+use mathlib.Core.Bool.{true, false}
+use mathlib.Core.List.{List}
+use Prim.Native.Nat.{ℕ}
+use native.Mathlib.Omega.{arith}
+use lib.ListN.{take}
+use Rattle.format.specs.Rules.{Section}
+use Rattle.format.specs.Reading.{Outcome, refused, found, andThen, told, stated, headerChecks, reading, rowCount, answer}
+use Rattle.format.specs.Writer.{finish}
+use Rattle.format.specs.declared.Answer.{Answer}
+use Rattle.format.specs.declared.Answer.the-variants.{Accepted, Refused}
+use Rattle.format.proofs.Tests.{tests-passed}
+use Rattle.reading.proofs.Headers.{Lengths, lengths}
+
+-- The draft is read without a fault.
+pub record DraftRead (d : List ℕ) : Type 0 where
+  pub sections : List Section
+  pub read : reading false d ≡ found sections
+
+pub accepted-draft : {k : ℕ} (d : List ℕ) → Accepted k ≡ told rowCount (reading false d) → DraftRead d
+unfolding told
+accepted-draft {k} d e = go (reading false d) refl e
+  where
+    go : (o : Outcome (List Section)) → reading false d ≡ o → Accepted k ≡ told rowCount o → DraftRead d
+    go (refused f) q w = absurd (let y : _≡_ {A = ℕ} 0 1 = cc in omega arith)
+    go (found ss) q w = record { sections = ss; read = q }
+
+-- Its lengths are then allowed.
+pub draft-lengths : (d : List ℕ) → DraftRead d → Lengths d
+unfolding reading
+draft-lengths d w = lengths false d (tests-passed 0 (headerChecks false d) _ (w .sections) (w .read) .0)
+
+-- A refusal is told as such, whatever would be counted.
+told-refused : {A : Type 0} {m p : ℕ} (f g : A → ℕ) (o : Outcome A) → Refused m p ≡ told f o → Refused m p ≡ told g o
+unfolding told
+told-refused f g (refused e) w = w
+told-refused f g (found a) w = absurd (let y : _≡_ {A = ℕ} 0 1 = cc in omega arith)
+
+-- What is found is told as the number n, whatever else could be counted.
+told-found : {A : Type 0} {k : ℕ} (f : A → ℕ) (n : ℕ) (o : Outcome A) → Accepted k ≡ told f o → Accepted n ≡ told (λ a. n) o
+unfolding told
+told-found f n (refused e) w = absurd (let y : _≡_ {A = ℕ} 0 1 = cc in omega arith)
+told-found f n (found a) w = refl
+
+-- The draft's own fault.
+pub finish-own : {m p : ℕ} (d : List ℕ) → Refused m p ≡ told rowCount (reading false d) → Refused m p ≡ finish d
+unfolding finish told andThen
+finish-own {m} {p} d e = go (reading false d) e
+  where
+    go : (o : Outcome (List Section)) → Refused m p ≡ told rowCount o
+        → Refused m p ≡ told (λ ss. stated d) (andThen o (λ ss. reading true (take (stated d) d)))
+    go (refused f) w = w
+    go (found ss) w = absurd (let y : _≡_ {A = ℕ} 0 1 = cc in omega arith)
+
+-- Where it has none, its bytes are read as a token.
+module _ {n : ℕ} (d : List ℕ) (r : DraftRead d) (l : n ≡ stated d) where
+  goes : finish d ≡ told (λ ss. stated d) (reading true (take (stated d) d))
+  unfolding finish andThen
+  goes = ap (λ o. told (λ ss. stated d) (andThen o (λ ss. reading true (take (stated d) d)))) (r .read)
+
+  as-token : {a : Answer} → a ≡ answer (take n d) → a ≡ told rowCount (reading true (take (stated d) d))
+  unfolding answer
+  as-token e = e ∙ ap (λ (m : ℕ). told rowCount (reading true (take m d))) l
+
+  -- That fault.
+  pub finish-refused : {m p : ℕ} → Refused m p ≡ answer (take n d) → Refused m p ≡ finish d
+  finish-refused e = told-refused rowCount (λ ss. stated d) (reading true (take (stated d) d)) (as-token e) ∙ sym goes
+
+  -- The draft's length.
+  pub finish-done : {k : ℕ} → Accepted k ≡ answer (take n d) → Accepted n ≡ finish d
+  finish-done e = ap Accepted l ∙ told-found rowCount (stated d) (reading true (take (stated d) d)) (as-token e) ∙ sym goes

@@ -1,0 +1,192 @@
+/*
+ * The reading calls as a C program sees them: null pointers with length 0, tables of every size, fields that are not
+ * there, and tokens that lie against a page that nobody may touch. The words on the command line are token files that
+ * are read in the same way.
+ */
+#define _DEFAULT_SOURCE
+#include "check.h"
+#include "trusted_block.h"
+
+/* What a number holds before a call; no call gives it. */
+#define UNTOUCHED 0xDEADBEEFu
+
+/* The smallest token, its last 56 bytes 0. */
+static const uint8_t smallest[80] = {0x1E, 0, 0, 0x50, 0, 0, 0, 0,  0x14, 0, 0, 0x48,
+                                     0,    0, 0, 0,    0, 0, 0, 0x01, 0,  0x3E};
+
+static uint32_t read_only(const uint8_t *token, size_t length, uint32_t *second)
+{
+    uint32_t number;
+
+    *second = UNTOUCHED;
+    number = tb_read(token, length, second);
+    CHECK(*second != UNTOUCHED);
+    return number;
+}
+
+static void nothing_at_a_null_pointer(void)
+{
+    uint32_t second = UNTOUCHED, offset = UNTOUCHED, length = UNTOUCHED;
+    uint32_t table[4] = {1, 2, 3, 4};
+
+    CHECK(tb_read(NULL, 0, &second) == TB_NO_HEADER && second == 0);
+    second = UNTOUCHED;
+    CHECK(tb_read_table(NULL, 0, NULL, 0, &second) == TB_NO_HEADER && second == 0);
+    second = UNTOUCHED;
+    CHECK(tb_read_table(NULL, 0, table, 4, &second) == TB_NO_HEADER && second == 0);
+    CHECK(table[0] == 1 && table[1] == 2 && table[2] == 3 && table[3] == 4);
+    second = UNTOUCHED;
+    CHECK(tb_read_table(smallest, 80, NULL, 0, &second) == TB_NO_ROOM && second == 2);
+    CHECK(tb_view(NULL, 0, 0, 0, &second, &offset, &length) == TB_NO_HEADER);
+    CHECK(second == 0 && offset == 0 && length == 0);
+}
+
+/* A table of this many numbers: too small and untouched, or filled and untouched behind its rows. */
+static void smallest_into_table(size_t numbers)
+{
+    static const uint32_t rows[8] = {TB_KIND_INFORMATION, 8, 72, 0, TB_KIND_PROTECTION, 18, 62, 0};
+    uint32_t before[16], second = UNTOUCHED, number;
+    struct lent lent;
+    size_t i;
+
+    for (i = 0; i < 16; i++) {
+        before[i] = UNTOUCHED;
+    }
+    lent = lend(before, 4 * numbers, PAGE_BEHIND);
+    number = tb_read_table(smallest, 80, (uint32_t *)(void *)lent.bytes, numbers, &second);
+    CHECK(second == 2 && number == (numbers < 8 ? TB_NO_ROOM : TB_ACCEPTED));
+    if (number == TB_ACCEPTED) {
+        memcpy(before, rows, sizeof rows);
+    }
+    CHECK(memcmp(lent.bytes, before, 4 * numbers) == 0);
+    take_back(&lent);
+}
+
+static void tables_of_every_size(void)
+{
+    size_t numbers;
+
+    for (numbers = 0; numbers <= 16; numbers++) {
+        smallest_into_table(numbers);
+    }
+}
+
+/* The fields of a row of the smallest token tile the row's own bytes, and no more fields are there. */
+static void fields_of_a_row(uint32_t row, uint32_t fields, uint32_t from, uint32_t to)
+{
+    static const uint32_t none[] = {0, 1, 2, 255, 65536, UINT32_MAX};
+    uint32_t field, second = UNTOUCHED, offset, length;
+    size_t i;
+
+    for (field = 0; field < fields; field++) {
+        CHECK(tb_view(smallest, 80, row, field, &second, &offset, &length) == TB_ACCEPTED);
+        CHECK(second == 0 && offset == from);
+        from = offset + length;
+    }
+    CHECK(from == to);
+    for (i = 0; i < sizeof none / sizeof *none; i++) {
+        field = none[i] <= UINT32_MAX - fields ? none[i] + fields : none[i];
+        second = offset = length = UNTOUCHED;
+        CHECK(tb_view(smallest, 80, row, field, &second, &offset, &length) == TB_NO_SUCH);
+        CHECK(second == 0 && offset == 0 && length == 0);
+    }
+}
+
+static void fields_of_the_smallest(void)
+{
+    fields_of_a_row(0, 5, 8, 18);
+    fields_of_a_row(1, 7, 18, 80);
+    fields_of_a_row(2, 0, 0, 0);
+    fields_of_a_row(UINT32_MAX, 0, 0, 0);
+}
+
+/* All three calls on a token that lies against a forbidden page, with a table just large enough. */
+static void read_at_a_page(const uint8_t *bytes, size_t size, enum side side)
+{
+    struct lent token = lend_to_read(bytes, size, side);
+    static const uint32_t blank[TB_TABLE];
+    uint32_t number, second, again, row, field, offset, length;
+    struct lent table;
+
+    number = read_only(token.bytes, size, &second);
+    table = lend(blank, number == TB_ACCEPTED ? 16 * (size_t)second : 0, PAGE_BEHIND);
+    CHECK(tb_read_table(token.bytes, size, (uint32_t *)(void *)table.bytes, table.length / 4, &again) == number);
+    CHECK(again == second);
+    for (row = 0; row <= (number == TB_ACCEPTED ? second : 0); row++) {
+        for (field = 0; field < 12; field++) {
+            uint32_t given = tb_view(token.bytes, size, row, field, &again, &offset, &length);
+
+            CHECK(offset <= size && length <= size - offset);
+            CHECK(given == number || (number == TB_ACCEPTED && given == TB_NO_SUCH));
+        }
+    }
+    take_back(&table);
+    take_back(&token);
+}
+
+static void every_beginning(const uint8_t *bytes, size_t size)
+{
+    uint32_t second;
+    size_t length;
+
+    for (length = 0; length < size; length++) {
+        struct lent token = lend_to_read(bytes, length, PAGE_BEHIND);
+
+        CHECK(read_only(token.bytes, length, &second) == (length < 8 ? TB_NO_HEADER : TB_TOKEN_LENGTH));
+        CHECK(second == 0);
+        take_back(&token);
+    }
+}
+
+/* Every byte in turn is made 0, 1, FF and one more: lengths that say too much must not lead outside. */
+static void every_byte_changed(void)
+{
+    uint8_t changed[80];
+    size_t place, turn;
+
+    for (place = 0; place < 80; place++) {
+        for (turn = 0; turn < 4; turn++) {
+            const uint8_t values[4] = {0, 1, 0xFF, (uint8_t)(smallest[place] + 1)};
+
+            memcpy(changed, smallest, 80);
+            changed[place] = values[turn];
+            read_at_a_page(changed, 80, PAGE_BEFORE);
+            read_at_a_page(changed, 80, PAGE_BEHIND);
+        }
+    }
+}
+
+static void read_file(const char *name)
+{
+    static uint8_t bytes[TB_LONGEST + 1];
+    FILE *file = fopen(name, "rb");
+    size_t size;
+
+    if (file == NULL) {
+        perror(name);
+        exit(2);
+    }
+    size = fread(bytes, 1, sizeof bytes, file);
+    fclose(file);
+    read_at_a_page(bytes, size, PAGE_BEFORE);
+    read_at_a_page(bytes, size, PAGE_BEHIND);
+    every_beginning(bytes, size);
+}
+
+int main(int argc, char **argv)
+{
+    uint32_t second;
+    int i;
+
+    CHECK(read_only(smallest, 80, &second) == TB_ACCEPTED && second == 2);
+    CHECK(read_only(smallest, 79, &second) == TB_TOKEN_LENGTH && second == 0);
+    nothing_at_a_null_pointer();
+    tables_of_every_size();
+    fields_of_the_smallest();
+    every_beginning(smallest, 80);
+    every_byte_changed();
+    for (i = 1; i < argc; i++) {
+        read_file(argv[i]);
+    }
+    return checks_end("reading");
+}
