@@ -16,13 +16,19 @@ use trusted_block_tests::reader::{read_answer, Answer};
 const TABLE: usize = 1200;
 
 fn main() {
+    let asked = std::env::args().nth(1);
+    let wanted = |what| asked.as_deref().is_none_or(|asked| asked == what);
     println!("median of {ROUNDS} rounds; library / Rust in ns, ratio (quartiles of the ratio)");
-    for sample in samples() {
-        check(&sample);
-        measure_read(&sample);
-        measure_table(&sample);
+    if wanted("reading") {
+        for sample in samples() {
+            check(&sample);
+            measure_read(&sample);
+            measure_table(&sample);
+        }
     }
-    writing::measure_all();
+    if wanted("writing") {
+        writing::measure_all();
+    }
 }
 
 /// Both give the answer of the second reader, before anything is measured.

@@ -5,8 +5,9 @@ mod common;
 
 use common::twins::{added, at_the_end};
 use common::*;
+use std::alloc::{alloc_zeroed, Layout};
 use trusted_block_tests::kinds::*;
-use trusted_block_tests::library_writer::lent_fields;
+use trusted_block_tests::library_writer::{add, add_lending, finish, lent_fields, start};
 use trusted_block_tests::parts::Part;
 use trusted_block_tests::views::taken_apart;
 
@@ -247,4 +248,63 @@ fn long_keys() {
             assert_eq!(given, expected, "{exponent} {modulus}");
         }
     }
+}
+
+/// One more than the most that 32 bits state.
+const FAR: usize = 1 << 32;
+
+/// This many bytes of 0, kept to the end. They take no memory as long as
+/// nobody touches them; None where the machine does not lend so many.
+fn untouched(length: usize) -> Option<&'static mut [u8]> {
+    let layout = Layout::array::<u8>(length).expect("a size that can be stated");
+    // SAFETY: the length is not 0, and the bytes are never given back.
+    unsafe {
+        let bytes = alloc_zeroed(layout);
+        (!bytes.is_null()).then(|| std::slice::from_raw_parts_mut(bytes, length))
+    }
+}
+
+#[test]
+fn fields_whose_lengths_pass_32_bits_are_24() {
+    let Some(zeros) = untouched(FAR + 65_536) else {
+        return println!("not tried: no room for 4 GiB");
+    };
+    for (kind, run, _) in FIELDS {
+        let part = part_of_kind(kind);
+        let mut fields = lent_fields(&part);
+        fields[run] = &zeros[..FAR + fields[run].len()];
+        let draft = draft_for(kind);
+        let mut buffer = draft.clone();
+        buffer.resize(3500, 0x77);
+        let before = buffer.clone();
+        let given = add_lending(&mut buffer, &part, fields);
+        assert_eq!(given, at_the_end(24, &draft), "{kind:X} {run}");
+        assert_eq!(buffer, before);
+    }
+    let part = part_of_kind(TOKEN_PARAMETERS);
+    let mut draft = draft_for(TOKEN_PARAMETERS);
+    let long = &zeros[..FAR + 8];
+    for fields in [[long, long, &[]], [long, &[0; 8], &[]]] {
+        let given = add_lending(&mut draft, &part, fields);
+        assert_eq!(given, answer(24, draft.len() as u32));
+    }
+}
+
+#[test]
+fn drafts_whose_lengths_pass_32_bits_have_room() {
+    let Some(buffer) = untouched(FAR + 4) else {
+        return println!("not tried: no room for 4 GiB");
+    };
+    assert_eq!(start(buffer, 0x1F), answer(0, 8));
+    let name = part_of_kind(NAME);
+    assert_eq!(add(buffer, &part_of_kind(INFORMATION)), answer(0, 18));
+    assert_eq!(add(buffer, &part_of_kind(PROTECTION)), answer(0, 80));
+    assert_eq!(add(buffer, &name), answer(0, 148));
+    assert_eq!(finish(buffer), answer(0, 148));
+    assert_eq!(add(buffer, &name), answer(9, 148));
+    let data = vec![0; 3500 - 148 - 5];
+    assert_eq!(
+        add(buffer, &Part::ApplicationData { data }),
+        answer(23, 148)
+    );
 }
