@@ -40,16 +40,18 @@ const RUST: Writer = Writer {
 pub fn measure_all() {
     let rules = smallest_with(&shuffled_rules());
     let data = smallest_with(&[application_data(3414)]);
+    let last_rule = in_line(rules[..3420].to_vec());
     println!("building: a start, an addition for each part, a finish");
     measure_building("T", &smallest_token());
     measure_building("T with 171 bare rules", &rules);
     measure_building("all twelve kinds", &token_of_all_kinds());
-    measure_addition(
-        "the last rule of a token of 3,420 bytes",
-        &in_line(rules[..3420].to_vec()),
-    );
-    measure_addition("3,414 bytes of data after T", &data);
-    measure_addition("a key of 4,096 bits after T", &with_key(&[1, 0, 1]));
+    println!("one addition");
+    measure_addition("a rule to a draft of 3,400 bytes", &last_rule);
+    measure_addition("3,414 bytes of data to T", &data);
+    measure_addition("a key of 4,096 bits to T", &with_key(&[1, 0, 1]));
+    println!("the addition of a rule / a reading of the draft of 3,400 bytes");
+    measure_against_reading("library", &last_rule, &LIBRARY);
+    measure_against_reading("Rust", &last_rule, &RUST);
 }
 
 /// Builds a token from its parts; gives what the finish answers.
@@ -109,7 +111,6 @@ impl Addition {
 }
 
 fn measure_addition(name: &str, token: &[u8]) {
-    println!("adding {name}");
     let (mut one, mut other) = (Addition::new(token), Addition::new(token));
     for (addition, by) in [(&mut one, &LIBRARY), (&mut other, &RUST)] {
         for _ in 0..2 {
@@ -117,14 +118,14 @@ fn measure_addition(name: &str, token: &[u8]) {
             assert_eq!(addition.draft[..token.len()], *token);
         }
     }
-    print(
-        "library / Rust",
-        interleaved(|| one.again(&LIBRARY), || other.again(&RUST)),
-    );
-    let mut draft = Addition::new(token).draft;
-    draft.truncate(one.length);
-    for (name, by) in [("library", &LIBRARY), ("Rust", &RUST)] {
-        let pairs = interleaved(|| one.again(by), || (by.read)(black_box(&draft)));
-        print(&format!("addition / reading of the draft, {name}"), pairs);
-    }
+    let pairs = interleaved(|| one.again(&LIBRARY), || other.again(&RUST));
+    print(name, pairs);
+}
+
+/// The addition of a token's last part to a reading of the draft before it.
+fn measure_against_reading(name: &str, token: &[u8], by: &Writer) {
+    let mut addition = Addition::new(token);
+    let draft = addition.draft[..addition.length].to_vec();
+    let pairs = interleaved(|| addition.again(by), || (by.read)(black_box(&draft)));
+    print(name, pairs);
 }
