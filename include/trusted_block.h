@@ -125,6 +125,23 @@ uint32_t tb_read_table(const uint8_t *token, size_t token_len, uint32_t *table, 
 uint32_t tb_view(const uint8_t *token, size_t token_len, uint32_t row, uint32_t field, uint32_t *second,
                  uint32_t *offset, uint32_t *length);
 
+/*
+ * The walk: the row that begins at a place, and the place of the next row. A walk begins at place 8 and ends
+ * at the token's length. 0 with second = 1: a row, its four numbers as in a table, next = where the next row
+ * begins, or the token's length. 0 with second = 0: the end. 1 to 21: the token is not legal, second = the
+ * place. 22: no row begins there, second = 0. Without a row the other five numbers are 0. Each call reads the
+ * token anew: for all rows tb_read_table is quicker.
+ */
+uint32_t tb_step(const uint8_t *token, size_t token_len, uint32_t place, uint32_t *second, uint32_t *kind,
+                 uint32_t *offset, uint32_t *length, uint32_t *owner, uint32_t *next);
+
+/*
+ * The row of a number, found by as many steps of the walk; the answers are those of tb_step, the end where
+ * the token has fewer rows.
+ */
+uint32_t tb_row(const uint8_t *token, size_t token_len, uint32_t row, uint32_t *second, uint32_t *kind,
+                uint32_t *offset, uint32_t *length, uint32_t *owner, uint32_t *next);
+
 /* ---- Writing */
 
 /*

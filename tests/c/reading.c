@@ -100,6 +100,40 @@ static void fields_of_the_smallest(void)
     fields_of_a_row(UINT32_MAX, 0, 0, 0);
 }
 
+/* A step of the walk or a row by its number, as the two rows of the smallest token must give it. */
+typedef uint32_t step_call(const uint8_t *, size_t, uint32_t, uint32_t *, uint32_t *, uint32_t *, uint32_t *, uint32_t *,
+                           uint32_t *);
+
+static void step_is(step_call *call, size_t size, uint32_t asked, uint32_t number, const uint32_t expected[6])
+{
+    uint32_t given[6] = {UNTOUCHED, UNTOUCHED, UNTOUCHED, UNTOUCHED, UNTOUCHED, UNTOUCHED};
+    struct lent token = lend_to_read(smallest, size, PAGE_BEHIND);
+
+    CHECK(call(token.bytes, size, asked, &given[0], &given[1], &given[2], &given[3], &given[4], &given[5]) == number);
+    CHECK(memcmp(given, expected, sizeof given) == 0);
+    take_back(&token);
+}
+
+static void walk_over_the_smallest(void)
+{
+    static const uint32_t first[6] = {1, TB_KIND_INFORMATION, 8, 72, 0, 18};
+    static const uint32_t last[6] = {1, TB_KIND_PROTECTION, 18, 62, 0, 80};
+    static const uint32_t none[6] = {0, 0, 0, 0, 0, 0};
+    uint32_t place;
+
+    for (place = 0; place < 90; place++) {
+        step_is(tb_step, 80, place, place == 8 || place == 18 || place == 80 ? TB_ACCEPTED : TB_NO_SUCH,
+                place == 8 ? first : place == 18 ? last : none);
+        step_is(tb_step, 79, place, TB_TOKEN_LENGTH, none);
+        step_is(tb_row, 80, place, TB_ACCEPTED, place == 0 ? first : place == 1 ? last : none);
+        step_is(tb_row, 79, place, TB_TOKEN_LENGTH, none);
+    }
+    step_is(tb_step, 80, UINT32_MAX, TB_NO_SUCH, none);
+    step_is(tb_row, 80, UINT32_MAX, TB_ACCEPTED, none);
+    step_is(tb_step, 0, 8, TB_NO_HEADER, none);
+    step_is(tb_row, 0, 0, TB_NO_HEADER, none);
+}
+
 /* All three calls on a token that lies against a forbidden page, with a table just large enough. */
 static void read_at_a_page(const uint8_t *bytes, size_t size, enum side side)
 {
@@ -183,6 +217,7 @@ int main(int argc, char **argv)
     nothing_at_a_null_pointer();
     tables_of_every_size();
     fields_of_the_smallest();
+    walk_over_the_smallest();
     every_beginning(smallest, 80);
     every_byte_changed();
     for (i = 1; i < argc; i++) {

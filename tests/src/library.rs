@@ -1,6 +1,7 @@
 //! The proved library, called as a host program in C calls it.
 
-use crate::reader::Answer;
+use crate::reader::{Answer, Row};
+use crate::views::Step;
 
 /// The C calls as they are. Result: 0 or the refusal; `second`: the rows or
 /// the place.
@@ -22,6 +23,28 @@ pub mod calls {
             second: *mut u32,
             offset: *mut u32,
             length: *mut u32,
+        ) -> u32;
+        pub fn tb_step(
+            token: *const u8,
+            token_len: usize,
+            place: u32,
+            second: *mut u32,
+            kind: *mut u32,
+            offset: *mut u32,
+            length: *mut u32,
+            owner: *mut u32,
+            next: *mut u32,
+        ) -> u32;
+        pub fn tb_row(
+            token: *const u8,
+            token_len: usize,
+            row: u32,
+            second: *mut u32,
+            kind: *mut u32,
+            offset: *mut u32,
+            length: *mut u32,
+            owner: *mut u32,
+            next: *mut u32,
         ) -> u32;
     }
 }
@@ -77,4 +100,62 @@ pub fn view(token: &[u8], row: u32, field: u32) -> Result<(u32, u32), Answer> {
     }
     assert_eq!((offset, length), (0, 0));
     Err(Answer { number, second })
+}
+
+/// `tb_step` or `tb_row`.
+type WalkCall = unsafe extern "C" fn(
+    *const u8,
+    usize,
+    u32,
+    *mut u32,
+    *mut u32,
+    *mut u32,
+    *mut u32,
+    *mut u32,
+    *mut u32,
+) -> u32;
+
+/// The step of the walk at a place.
+pub fn step(token: &[u8], place: u32) -> Step {
+    walked(calls::tb_step, token, place)
+}
+
+/// The row of this number, and the end behind the last.
+pub fn row(token: &[u8], row: u32) -> Step {
+    walked(calls::tb_row, token, row)
+}
+
+/// Where no row is given, its numbers must be 0.
+fn walked(call: WalkCall, token: &[u8], asked: u32) -> Step {
+    let mut second = NOT_GIVEN;
+    let [mut kind, mut offset, mut length, mut owner, mut next] = [NOT_GIVEN; 5];
+    // SAFETY: as above; the six numbers are apart.
+    let number = unsafe {
+        call(
+            token.as_ptr(),
+            token.len(),
+            asked,
+            &mut second,
+            &mut kind,
+            &mut offset,
+            &mut length,
+            &mut owner,
+            &mut next,
+        )
+    };
+    if (number, second) == (0, 1) {
+        let row = Row {
+            kind,
+            offset,
+            length,
+            owner,
+        };
+        return Step::Row(row, next);
+    }
+    assert_eq!([kind, offset, length, owner, next], [0; 5]);
+    if (number, second) == (0, 0) {
+        return Step::End;
+    }
+    assert_ne!(number, 0, "0 with {second}");
+    Step::Refused(Answer { number, second })
 }

@@ -56,19 +56,23 @@ pub enum Step {
     Refused(Answer),
 }
 
-/// One step of the walk at a place from 8 on.
+/// One step of the walk at any place.
 pub fn step(token: &[u8], place: usize) -> Step {
-    let rows = match read(token) {
-        Ok(rows) => rows,
-        Err(refusal) => return Step::Refused(refusal),
-    };
-    if place == token.len() {
+    match read(token) {
+        Ok(rows) => step_among(&rows, token.len(), place),
+        Err(refusal) => Step::Refused(refusal),
+    }
+}
+
+/// The same, of a legal token of this length with these rows.
+pub fn step_among(rows: &[Row], length: usize, place: usize) -> Step {
+    if place == length {
         return Step::End;
     }
     match rows.iter().position(|row| row.offset as usize == place) {
         Some(index) => {
-            let end = token.len() as u32;
-            Step::Row(rows[index], rows.get(index + 1).map_or(end, |r| r.offset))
+            let next = rows.get(index + 1).map_or(length as u32, |row| row.offset);
+            Step::Row(rows[index], next)
         }
         None => Step::Refused(Answer::new(22, 0)),
     }

@@ -2,6 +2,7 @@
 mod drafts; // drafts.rt: the start and the finish of a draft
 mod sections; // sections.rt: the additions of sections
 mod subsections; // subsections.rt: the additions of subsections
+mod walk; // walk.rt: the walk over the rows, and a row by its number
 
 ghost use mathlib.Core.Path.{_≡_};
 ghost use Rattle.format.specs.Reading.{answer};

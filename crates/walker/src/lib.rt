@@ -1,7 +1,7 @@
 // The reader that keeps hold of a token's bytes and its place in them. Any bytes may be walked.
 ghost use mathlib.Core.Path.{_≡_};
 ghost use Rattle.format.specs.Views.{stepAt, placeBehind};
-ghost use Rattle.walker.specs.Walking.{stepBehind};
+ghost use Rattle.walker.specs.Walking.{stepBehind, goesOn};
 use format::Step;
 
 pub struct Walker<'a> {
@@ -37,19 +37,26 @@ pub fn next<'s, 'a>(w: &'s mut Walker<'a>) -> Step
     s
 }
 
-// The step behind n steps from the first row's place: row n, or what stopped the walk before it.
+// Whether the walk goes on behind a step: the step is a row, and more are asked for.
+fn goes_on(s: Step, left: u32) -> bool
+    ensures { λ r. ⌜ r ≡ goesOn s left ⌝ }
+{
+    let Step::Record(_, _) = s else {
+        return false;
+    };
+    0 < left
+}
+
+// The step behind n steps from the first row's place, by the reader: row n, or what stopped the walk before it.
 pub fn nth_row(token: &[u8], n: u32) -> Step
     ensures { λ r. ⌜ r ≡ stepBehind (now (token .entry)) 8 n ⌝ }
 {
-    let mut place: usize = 8;
+    let mut w = start(token);
     let mut left = n;
-    while 0 < left {
-        let s = lookup::step(token, place);
-        let Step::Record(_, next) = s else {
-            return s;
-        };
-        place = next as usize;
+    let mut s = next(&mut w);
+    while goes_on(s, left) {
+        s = next(&mut w);
         left = left - 1;
     }
-    lookup::step(token, place)
+    s
 }

@@ -33,7 +33,7 @@ returns c =
 
 -- src/lib.rt:12:1
 returns-2 : tie.Need-returns-2
-returns-2 c = search needs
+returns-2 c = c .field-in .ensures
 
 pub field-at-spec : {M : Type 1} → statement M
 field-at-spec =

@@ -33,7 +33,7 @@ returns c =
 
 -- src/lib.rt:47:1
 returns-2 : tie.Need-returns-2
-returns-2 c = search needs
+returns-2 c = c .step-in .ensures
 
 pub step-spec : {M : Type 1} → statement M
 step-spec =

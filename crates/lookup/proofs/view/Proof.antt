@@ -23,14 +23,14 @@ enum-told : tie.Need-enum-told
 enum-told c = search needs
 
 -- src/lib.rt:28:9
-slice-aggregate-result : tie.Need-slice-aggregate-result
-slice-aggregate-result c = search needs
-
--- src/lib.rt:28:9
 returns : tie.Need-returns
 unfolding view
 returns c =
     nothing-there (c .before .before .before .before .before .args .token .now) (c .before .before .before .field-at .result) (c .before .before .match .keys2) ∙ ap (bytesThere (c .before .before .before .before .before .args .token .now)) (c .before .before .before .field-at .ensures)
+
+-- src/lib.rt:28:9
+slice-aggregate-result : tie.Need-slice-aggregate-result
+slice-aggregate-result c = search needs
 
 -- src/lib.rt:30:17
 cast-start : tie.Need-cast-start

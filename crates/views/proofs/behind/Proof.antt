@@ -17,6 +17,11 @@ shared-slice-read-id c = omega (arith, four (c .before .before .before .before .
 own-length-requires : tie.Need-own-length-requires
 own-length-requires c κs = search needs
 
+returns : tie.Need-returns
+returns c =
+    section-behind (c .before .before .before .if1 .taken) (c .before .before .before .before .before .two .ensures .0)
+    (c .before .own-length .ensures)
+
 add-t11 : tie.Need-add-t11
 add-t11 c =
     let w = c .before .before .before .before .before .before .pre in
@@ -29,11 +34,6 @@ add-t12 c = search needs
 
 add-t13 : tie.Need-add-t13
 add-t13 c = search needs
-
-returns : tie.Need-returns
-returns c =
-    section-behind (c .before .before .before .if1 .taken) (c .before .before .before .before .before .two .ensures .0)
-    (c .before .own-length .ensures)
 
 add-t6 : tie.Need-add-t6
 add-t6 c = search needs

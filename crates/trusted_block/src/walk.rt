@@ -1,0 +1,118 @@
+// The walk over the rows of a token, and a row by its number, for host programs.
+ghost use mathlib.Core.Path.{_≡_};
+ghost use Rattle.format.specs.Views.{stepAt};
+ghost use Rattle.trusted_block.specs.Steps.{stepNumber, stopPlace, stepSecond, rowKind, rowOffset, rowLength, rowOwner, nextOf};
+ghost use Rattle.walker.specs.Walking.{stepBehind};
+use format::Step;
+use lookup::step;
+use walker::nth_row;
+
+// The two numbers of a step that is no row: the end, or the refusal.
+fn give_stop(s: Step, second: &mut u32) -> u32
+    ensures number { λ r. ⌜ r ≡ stepNumber s ⌝ }
+    ensures second { λ _. ⌜ now (second .exit) ≡ stopPlace s ⌝ }
+{
+    let Step::Stopped(number, place) = s else {
+        *second = 0;
+        return 0;
+    };
+    *second = place;
+    number
+}
+
+// The numbers of a step.
+fn give_step(
+    s: Step,
+    second: &mut u32,
+    kind: &mut u32,
+    offset: &mut u32,
+    length: &mut u32,
+    owner: &mut u32,
+    next: &mut u32,
+) -> u32
+    ensures number { λ r. ⌜ r ≡ stepNumber s ⌝ }
+    ensures second { λ _. ⌜ now (second .exit) ≡ stepSecond s ⌝ }
+    ensures kind { λ _. ⌜ now (kind .exit) ≡ rowKind s ⌝ }
+    ensures offset { λ _. ⌜ now (offset .exit) ≡ rowOffset s ⌝ }
+    ensures length { λ _. ⌜ now (length .exit) ≡ rowLength s ⌝ }
+    ensures owner { λ _. ⌜ now (owner .exit) ≡ rowOwner s ⌝ }
+    ensures next { λ _. ⌜ now (next .exit) ≡ nextOf s ⌝ }
+{
+    let Step::Record(row, behind) = s else {
+        *kind = 0;
+        *offset = 0;
+        *length = 0;
+        *owner = 0;
+        *next = 0;
+        return give_stop(s, second);
+    };
+    *second = 1;
+    *kind = row.kind;
+    *offset = row.offset;
+    *length = row.length;
+    *owner = row.owner;
+    *next = behind;
+    0
+}
+
+// The step of the walk at a place.
+#[no_mangle]
+pub extern "C" fn tb_step(
+    token: &[u8],
+    place: u32,
+    second: &mut u32,
+    kind: &mut u32,
+    offset: &mut u32,
+    length: &mut u32,
+    owner: &mut u32,
+    next: &mut u32,
+) -> u32
+    ensures number { λ r. ⌜ r ≡ stepNumber (stepAt (now (token .entry)) place) ⌝ }
+    ensures second { λ _. ⌜ now (second .exit) ≡ stepSecond (stepAt (now (token .entry)) place) ⌝ }
+    ensures kind { λ _. ⌜ now (kind .exit) ≡ rowKind (stepAt (now (token .entry)) place) ⌝ }
+    ensures offset { λ _. ⌜ now (offset .exit) ≡ rowOffset (stepAt (now (token .entry)) place) ⌝ }
+    ensures length { λ _. ⌜ now (length .exit) ≡ rowLength (stepAt (now (token .entry)) place) ⌝ }
+    ensures owner { λ _. ⌜ now (owner .exit) ≡ rowOwner (stepAt (now (token .entry)) place) ⌝ }
+    ensures next { λ _. ⌜ now (next .exit) ≡ nextOf (stepAt (now (token .entry)) place) ⌝ }
+{
+    give_step(
+        step(token, place as usize),
+        second,
+        kind,
+        offset,
+        length,
+        owner,
+        next,
+    )
+}
+
+// The row of this number; behind the last row the end.
+#[no_mangle]
+pub extern "C" fn tb_row(
+    token: &[u8],
+    row: u32,
+    second: &mut u32,
+    kind: &mut u32,
+    offset: &mut u32,
+    length: &mut u32,
+    owner: &mut u32,
+    next: &mut u32,
+) -> u32
+    ensures number { λ r. ⌜ r ≡ stepNumber (stepBehind (now (token .entry)) 8 row) ⌝ }
+    ensures second { λ _. ⌜ now (second .exit) ≡ stepSecond (stepBehind (now (token .entry)) 8 row) ⌝ }
+    ensures kind { λ _. ⌜ now (kind .exit) ≡ rowKind (stepBehind (now (token .entry)) 8 row) ⌝ }
+    ensures offset { λ _. ⌜ now (offset .exit) ≡ rowOffset (stepBehind (now (token .entry)) 8 row) ⌝ }
+    ensures length { λ _. ⌜ now (length .exit) ≡ rowLength (stepBehind (now (token .entry)) 8 row) ⌝ }
+    ensures owner { λ _. ⌜ now (owner .exit) ≡ rowOwner (stepBehind (now (token .entry)) 8 row) ⌝ }
+    ensures next { λ _. ⌜ now (next .exit) ≡ nextOf (stepBehind (now (token .entry)) 8 row) ⌝ }
+{
+    give_step(
+        nth_row(token, row),
+        second,
+        kind,
+        offset,
+        length,
+        owner,
+        next,
+    )
+}
