@@ -55,7 +55,7 @@ fn hash(rule_id: &[u8]) -> u64 {
 }
 
 /// 171 bare rules in an order that is not that of their Rule IDs.
-fn shuffled_rules() -> Vec<Vec<u8>> {
+pub fn shuffled_rules() -> Vec<Vec<u8>> {
     let mut numbers: Vec<usize> = (0..171).collect();
     Random::new(0x7368_7566).shuffle(&mut numbers);
     numbers.into_iter().map(numbered_rule).collect()
@@ -81,7 +81,7 @@ fn most_rows() -> Vec<u8> {
 
 /// T with a section 11 of this exponent. The one of 512 bytes differs from
 /// the modulus in the last byte only, the longest comparison there is.
-fn with_key(exponent: &[u8]) -> Vec<u8> {
+pub fn with_key(exponent: &[u8]) -> Vec<u8> {
     let mut modulus = [0x91; 512];
     modulus[511] = 0x93;
     let length = (exponent.len() as u16).to_be_bytes();

@@ -4,6 +4,8 @@
 mod rules;
 mod sections;
 mod signs;
+/// An optimised writer with the same answers as [`crate::writer`].
+pub mod writer;
 
 use crate::reader::Answer;
 use rules::{rule, RuleIds};
@@ -11,6 +13,11 @@ use sections::{information, public_key};
 
 /// The number of a fault and its place.
 type Judged<T> = Result<T, Answer>;
+
+/// A token is judged by all rules, a draft by all but 20. The functions that
+/// judge are compiled for each, so that the one costs the other nothing.
+const WHOLE: bool = true;
+const DRAFT: bool = false;
 
 #[cold]
 fn refuse<T>(number: u32, place: usize) -> Judged<T> {
@@ -22,7 +29,7 @@ fn refuse<T>(number: u32, place: usize) -> Judged<T> {
 
 /// 0 with the count of rows, or the refusal.
 pub fn fast_read(token: &[u8]) -> Answer {
-    match judge(token) {
+    match judge::<WHOLE>(token) {
         Ok(rows) => Answer {
             number: 0,
             second: rows,
@@ -33,7 +40,7 @@ pub fn fast_read(token: &[u8]) -> Answer {
 
 /// The same, and fills the table with the rows of an accepted token.
 pub fn fast_fill(token: &[u8], table: &mut [u32]) -> Answer {
-    let rows = match judge(token) {
+    let rows = match judge::<WHOLE>(token) {
         Ok(rows) => rows,
         Err(refusal) => return refusal,
     };
@@ -91,6 +98,8 @@ struct Progress {
     met: u8,
     rows: u32,
     external: bool,
+    /// Where the last section of a draft begins; 0 while there is none.
+    last: u32,
 }
 
 impl Progress {
@@ -106,7 +115,10 @@ impl Progress {
     }
 
     #[inline]
-    fn end(&self, length: usize) -> Judged<u32> {
+    fn end<const ALL: bool>(&self, length: usize) -> Judged<u32> {
+        if !ALL {
+            return Ok(self.last);
+        }
         if self.met & (1 << 3) == 0 {
             return refuse(20, length);
         }
@@ -114,8 +126,9 @@ impl Progress {
     }
 }
 
-fn judge(token: &[u8]) -> Judged<u32> {
-    let Some(&[id, version, high, low, reserved @ ..]) = token.first_chunk::<8>() else {
+/// The rows of a token; of a draft, where its last section begins, or 0.
+fn judge<const ALL: bool>(bytes: &[u8]) -> Judged<u32> {
+    let Some(&[id, version, high, low, reserved @ ..]) = bytes.first_chunk::<8>() else {
         return refuse(1, 0);
     };
     if id & 0xFE != 0x1E {
@@ -124,7 +137,12 @@ fn judge(token: &[u8]) -> Judged<u32> {
     if version != 0 {
         return refuse(3, 0);
     }
-    if token.len() > 3500 || token.len() != usize::from(high) << 8 | usize::from(low) {
+    let length = usize::from(high) << 8 | usize::from(low);
+    let right = match ALL {
+        true => bytes.len() <= 3500 && length == bytes.len(),
+        false => (8..=3500).contains(&length) && length <= bytes.len(),
+    };
+    if !right {
         return refuse(4, 0);
     }
     if reserved != [0; 4] {
@@ -134,35 +152,41 @@ fn judge(token: &[u8]) -> Judged<u32> {
         met: 0,
         rows: 0,
         external: id == 0x1E,
+        last: 0,
     };
+    let token = &bytes[..length];
     let mut place = 8;
     while place < token.len() {
         let (id, length) = frame(token, place)?;
         if id == 0x12 {
-            return judge_with_rules(token, place, progress);
+            return judge_with_rules::<ALL>(token, place, progress);
         }
-        other_section(&token[place..place + length], id, place, &mut progress)?;
+        other_section::<ALL>(&token[place..place + length], id, place, &mut progress)?;
         place += length;
     }
-    progress.end(token.len())
+    progress.end::<ALL>(token.len())
 }
 
 /// Goes on from the first rule; only from there on is the set of IDs needed.
 #[inline(never)]
-fn judge_with_rules(token: &[u8], first: usize, mut progress: Progress) -> Judged<u32> {
+fn judge_with_rules<const ALL: bool>(
+    token: &[u8],
+    first: usize,
+    mut progress: Progress,
+) -> Judged<u32> {
     let mut rule_ids = RuleIds::new();
     let mut place = first;
     while place < token.len() {
         let (id, length) = frame(token, place)?;
         let section = &token[place..place + length];
         if id == 0x12 {
-            rule(section, place, &mut rule_ids, &mut progress)?;
+            rule::<ALL>(section, place, &mut rule_ids, &mut progress)?;
         } else {
-            other_section(section, id, place, &mut progress)?;
+            other_section::<ALL>(section, id, place, &mut progress)?;
         }
         place += length;
     }
-    progress.end(token.len())
+    progress.end::<ALL>(token.len())
 }
 
 /// The id and length of the section that begins here.
@@ -188,13 +212,21 @@ fn frame(token: &[u8], place: usize) -> Judged<(u8, usize)> {
 
 /// Any section but a rule.
 #[inline]
-fn other_section(section: &[u8], id: u8, place: usize, progress: &mut Progress) -> Judged<()> {
+fn other_section<const ALL: bool>(
+    section: &[u8],
+    id: u8,
+    place: usize,
+    progress: &mut Progress,
+) -> Judged<()> {
     progress.meet(id, place)?;
     progress.rows += 1;
+    if !ALL {
+        progress.last = place as u32;
+    }
     match id {
         0x11 => public_key(section, place),
         0x13 if section.len() != 68 => refuse(15, place),
-        0x14 => information(section, place, progress),
+        0x14 => information::<ALL>(section, place, progress),
         0x15 if section.len() != 6 + two(section, 4) => refuse(15, place),
         _ => Ok(()),
     }

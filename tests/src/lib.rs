@@ -13,7 +13,7 @@ pub mod generate;
 pub mod kinds;
 /// The proved library, through its C calls.
 pub mod library;
-/// The proved writer, through its C calls.
+/// The proved library's writer, through its C calls.
 pub mod library_writer;
 /// The listing of a token.
 pub mod listing;

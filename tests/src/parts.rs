@@ -129,6 +129,34 @@ impl Part {
         }
     }
 
+    /// The lent fields that are runs of bytes, in order.
+    pub fn runs_mut(&mut self) -> Vec<&mut Vec<u8>> {
+        match self {
+            Part::PublicKey {
+                exponent, modulus, ..
+            } => vec![exponent, modulus],
+            Part::Rule { rule_id, .. }
+            | Part::TransportRule { rule_id }
+            | Part::SourceRule { rule_id } => vec![rule_id],
+            Part::TransportVariant { variant } => vec![variant],
+            Part::ExportParameters { variant, cv, .. } => vec![variant, cv],
+            Part::TokenParameters {
+                mask,
+                template,
+                label_template,
+            } => vec![mask, template, label_template],
+            Part::Name { name } => vec![name],
+            Part::Information { .. } => vec![],
+            Part::Protection { mac_key, mac, mkvp } => vec![mac_key, mac, mkvp],
+            Part::Dates {
+                activation,
+                expiration,
+                ..
+            } => vec![activation, expiration],
+            Part::ApplicationData { data } => vec![data],
+        }
+    }
+
     /// How many bytes the part takes, without subsections that follow it.
     pub fn size(&self) -> usize {
         match self {

@@ -105,8 +105,8 @@ impl<'a> HoldingReader<'a> {
 /// The identifier and the parts of a legal token, by the views of its rows.
 pub fn taken_apart(token: &[u8]) -> Result<(u8, Vec<Part>), Answer> {
     let rows = read(token)?;
-    let parts = rows.iter().map(|row| part_of(token, row)).collect();
-    Ok((token[0], parts))
+    let part = |row: &Row| part_of(row.kind, &fields_of(token, row));
+    Ok((token[0], rows.iter().map(part).collect()))
 }
 
 /// The bytes of all fields of a row.
@@ -129,9 +129,9 @@ fn four(field: &[u8]) -> u32 {
     u32::from_be_bytes(field.try_into().expect("four bytes"))
 }
 
-fn part_of(token: &[u8], row: &Row) -> Part {
-    let fields = fields_of(token, row);
-    match row.kind {
+/// The part of this kind with all these fields, in the order of document 01.
+pub fn part_of(kind: u32, fields: &[&[u8]]) -> Part {
+    match kind {
         PUBLIC_KEY => Part::PublicKey {
             modulus_bits: two(fields[5]),
             exponent: fields[7].to_vec(),
@@ -155,7 +155,7 @@ fn part_of(token: &[u8], row: &Row) -> Part {
         APPLICATION_DATA => Part::ApplicationData {
             data: fields[4].to_vec(),
         },
-        _ => subsection_of(row.kind, &fields),
+        _ => subsection_of(kind, fields),
     }
 }
 

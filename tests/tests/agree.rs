@@ -1,10 +1,13 @@
-//! The reader against the quick one over generated tokens. How many tokens
-//! is set by TRUSTED_BLOCK_TOKENS; 20,000 at least, so that the tallies hold.
+//! The reader and writer against the quick ones over generated tokens and
+//! calls. How many tokens is set by TRUSTED_BLOCK_TOKENS; 20,000 at least, so
+//! that the tallies hold.
 
 mod common;
 
-use common::{count_of_tokens, Tally};
+use common::{assert_exactly, count_of_tokens, Tally};
+use trusted_block_tests::fast::writer::{fast_add, fast_finish};
 use trusted_block_tests::fast::{fast_fill, fast_read};
+use trusted_block_tests::generate::calls::{sequence, Call};
 use trusted_block_tests::generate::damage::{damaged, with_fault};
 use trusted_block_tests::generate::faults::{CONTENT, LENGTHS};
 use trusted_block_tests::generate::legal::{legal, ordinary, Token};
@@ -12,6 +15,7 @@ use trusted_block_tests::kinds;
 use trusted_block_tests::parts::{written, Part};
 use trusted_block_tests::random::Random;
 use trusted_block_tests::reader::{read, read_answer, read_table, Answer};
+use trusted_block_tests::writer;
 
 /// A table that is too small, just large enough, or larger.
 fn any_table(random: &mut Random, rows: usize) -> Vec<u32> {
@@ -245,4 +249,52 @@ fn every_single_byte_change_is_read_alike() {
             changed[place] = token[place];
         }
     }
+}
+
+/// Both writers make the call on their buffers; gives what an addition
+/// answered.
+fn both_writers(one: &mut [u8], other: &mut [u8], call: &Call) -> Option<Answer> {
+    let added = match call {
+        Call::Start { id } => {
+            writer::start(one, *id);
+            writer::start(other, *id);
+            None
+        }
+        Call::Add(part) => {
+            let answer = writer::add(one, part);
+            assert_eq!(fast_add(other, part), answer, "{part:?} to {one:02X?}");
+            Some(answer)
+        }
+        Call::Finish => {
+            assert_eq!(fast_finish(other), writer::finish(one), "{one:02X?}");
+            None
+        }
+        Call::SetByte { place, value } => {
+            for buffer in [&mut *one, &mut *other] {
+                if let Some(byte) = buffer.get_mut(*place) {
+                    *byte = *value;
+                }
+            }
+            None
+        }
+    };
+    assert!(one == other, "{call:?}: {one:02X?} and {other:02X?}");
+    added
+}
+
+#[test]
+fn writers_agree_on_sequences_of_calls() {
+    let mut random = Random::new(0x6661_7772);
+    let mut tally = Tally::default();
+    for _ in 0..(count_of_tokens() / 10).max(20_000) {
+        let sequence = sequence(&mut random);
+        let (mut one, mut other) = (sequence.buffer.clone(), sequence.buffer);
+        for call in &sequence.calls {
+            if let Some(added) = both_writers(&mut one, &mut other, call) {
+                tally.add(added);
+            }
+        }
+    }
+    let all_but_20: Vec<usize> = (0..=25).filter(|n| ![20, 22].contains(n)).collect();
+    assert_exactly(&tally.numbers, &all_but_20, 20);
 }

@@ -2,7 +2,7 @@
 
 mod common;
 
-use common::{answer, token_of_all_kinds};
+use common::{answer, assert_exactly, token_of_all_kinds};
 use trusted_block_tests::generate::calls::{sequence, Call};
 use trusted_block_tests::generate::legal::{legal, with_bare_rules, with_most_rows, Token};
 use trusted_block_tests::kinds::LONGEST;
@@ -206,16 +206,6 @@ impl Tally {
                 self.fresh_additions[number] += usize::from(fresh);
             }
             _ => self.finishes[number] += 1,
-        }
-    }
-}
-
-fn assert_exactly(counts: &[usize; 26], expected: &[usize], least: usize) {
-    for (number, count) in counts.iter().enumerate() {
-        if expected.contains(&number) {
-            assert!(*count >= least, "{number} in {counts:?}");
-        } else {
-            assert_eq!(*count, 0, "{number} in {counts:?}");
         }
     }
 }

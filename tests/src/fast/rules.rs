@@ -40,7 +40,7 @@ fn is_key_length(length: u8) -> bool {
 
 /// A rule, whose length is at least 20.
 #[inline]
-pub fn rule(
+pub fn rule<const ALL: bool>(
     section: &[u8],
     place: usize,
     rule_ids: &mut RuleIds,
@@ -68,14 +68,18 @@ pub fn rule(
         return refuse(9, place);
     }
     progress.rows += 1;
+    if !ALL {
+        progress.last = place as u32;
+    }
     if subsections.is_empty() && flags == 0 {
         return Ok(());
     }
-    rule_subsections(subsections, place, flags == 1, progress)
+    rule_subsections::<ALL>(subsections, place, flags == 1, progress)
 }
 
 /// The subsections of the rule at `rule_place`, its own tests after them.
-fn rule_subsections(
+#[inline(always)]
+fn rule_subsections<const ALL: bool>(
     subsections: &[u8],
     rule_place: usize,
     export: bool,
@@ -104,12 +108,13 @@ fn rule_subsections(
     if mask != 0 && mask < minimum {
         return refuse(18, mask_place);
     }
-    if export && minimum == 0 {
+    if ALL && export && minimum == 0 {
         return refuse(20, rule_place);
     }
     Ok(())
 }
 
+#[inline(always)]
 fn transport_variant(subsection: &[u8], place: usize) -> Judged<()> {
     if subsection.len() != 8 + usize::from(subsection[7]) {
         return refuse(12, place);
@@ -120,6 +125,7 @@ fn transport_variant(subsection: &[u8], place: usize) -> Judged<()> {
     Ok(())
 }
 
+#[inline(always)]
 fn rule_reference(subsection: &[u8], place: usize) -> Judged<()> {
     let Ok([_, _, _, _, _, reserved, rule_id @ ..]) = <[u8; 14]>::try_from(subsection) else {
         return refuse(12, place);
@@ -134,6 +140,7 @@ fn rule_reference(subsection: &[u8], place: usize) -> Judged<()> {
 }
 
 /// Gives the minimum.
+#[inline(always)]
 fn export_parameters(subsection: &[u8], place: usize) -> Judged<u8> {
     let variant = usize::from(subsection[10]);
     let cv = match subsection.get(11 + variant) {
@@ -159,6 +166,7 @@ fn export_parameters(subsection: &[u8], place: usize) -> Judged<u8> {
 }
 
 /// Gives the mask's length.
+#[inline(always)]
 fn token_parameters(subsection: &[u8], place: usize) -> Judged<u8> {
     let mask = subsection[8];
     let masks = 2 * usize::from(mask);

@@ -2,6 +2,7 @@
 
 use super::{refuse, subsection_frame, two, Judged, Progress};
 
+#[inline(always)]
 pub fn public_key(section: &[u8], place: usize) -> Judged<()> {
     let (x, bits, y) = (two(section, 6), two(section, 8), two(section, 10));
     if section.len() != 16 + x + y {
@@ -40,7 +41,11 @@ fn is_below(exponent: &[u8], modulus: &[u8]) -> bool {
 }
 
 #[inline]
-pub fn information(section: &[u8], section_place: usize, progress: &mut Progress) -> Judged<()> {
+pub fn information<const ALL: bool>(
+    section: &[u8],
+    section_place: usize,
+    progress: &mut Progress,
+) -> Judged<()> {
     const LEAST: [u8; 2] = [62, 16];
     let (fixed, mut rest) = section.split_at(10);
     if fixed[4] | fixed[5] != 0 {
@@ -61,7 +66,7 @@ pub fn information(section: &[u8], section_place: usize, progress: &mut Progress
         rest = after;
         place += length;
     }
-    if met & (1 << 1) == 0 {
+    if ALL && met & (1 << 1) == 0 {
         return refuse(20, section_place);
     }
     Ok(())
@@ -81,6 +86,7 @@ fn protection(subsection: &[u8], place: usize, external: bool) -> Judged<()> {
     Ok(())
 }
 
+#[inline(always)]
 fn dates(subsection: &[u8], place: usize) -> Judged<()> {
     let Ok([_, _, _, _, _, reserved, f0, f1, a, b, c, d, e, f, g, h]) =
         <[u8; 16]>::try_from(subsection)

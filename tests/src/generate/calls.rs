@@ -109,10 +109,13 @@ fn add_calls(random: &mut Random, calls: &mut Vec<Call>) {
     for _ in 0..random.between(1, 12) {
         match random.below(16) {
             0 => calls.push(Call::Finish),
-            1 => calls.push(Call::SetByte {
-                place: random.below(120),
-                value: random.byte(),
-            }),
+            1 => {
+                let places = random.pick(&[120, 120, 3500]);
+                calls.push(Call::SetByte {
+                    place: random.below(places),
+                    value: random.byte(),
+                });
+            }
             2 => calls.push(Call::SetByte {
                 place: random.below(24),
                 value: random.pick(&[0, 1, 8, 18, 0x1E, 0x1F]),

@@ -1,6 +1,8 @@
 //! What several tests share: samples, the readings side by side, tallies.
 #![allow(dead_code, unused_imports)]
 
+pub mod twins;
+
 use std::path::{Path, PathBuf};
 use trusted_block_tests::fast::{fast_fill, fast_read};
 use trusted_block_tests::library;
@@ -53,6 +55,17 @@ impl Tally {
         for number in numbers {
             let count = self.numbers[number];
             assert!(count >= least, "{number}: {count} of {:?}", self.numbers);
+        }
+    }
+}
+
+/// Fails unless these numbers were answered this often and no others at all.
+pub fn assert_exactly(counts: &[usize; 26], expected: &[usize], least: usize) {
+    for (number, count) in counts.iter().enumerate() {
+        if expected.contains(&number) {
+            assert!(*count >= least, "{number} in {counts:?}");
+        } else {
+            assert_eq!(*count, 0, "{number} in {counts:?}");
         }
     }
 }
