@@ -1,5 +1,6 @@
 // Internal: an addition to a draft, as bytes. What is added is lent as it is to stand in the draft.
 mod growing; // growing.rt: the draft with a part behind it
+pub mod heads; // heads.rt: how a part's bytes begin
 mod last; // last.rt: the last section of a draft
 
 ghost use mathlib.Core.Path.{_≡_};

@@ -21,7 +21,7 @@ pub extern "C" fn tb_add_public_key(
     ensures second { λ _. ⌜ now (second .exit) ≡ secondOf (writeAnswer (addition Parts.publicKey (publicKeyFields «modulus_bits» (now (exponent .entry)) (now (modulus .entry)) flags) (now (draft .entry)))) ⌝ }
 {
     give(
-        writer::sections::public_key(draft, modulus_bits, exponent, modulus, flags),
+        section_writer::public_key(draft, modulus_bits, exponent, modulus, flags),
         second,
     )
 }
@@ -43,7 +43,7 @@ pub extern "C" fn tb_add_rule(
     ensures second { λ _. ⌜ now (second .exit) ≡ secondOf (writeAnswer (addition Parts.rule (ruleFields (now («rule_id» .entry)) flags «generated_length» «key_check» «symmetric_format» «asymmetric_format») (now (draft .entry)))) ⌝ }
 {
     give(
-        writer::sections::rule(
+        section_writer::rule(
             draft,
             rule_id,
             flags,
@@ -63,7 +63,7 @@ pub extern "C" fn tb_add_name(draft: &mut [u8], name: &[u8], second: &mut u32) -
     ensures draft { λ _. ⌜ now (draft .exit) ≡ draftAfter (addition Parts.name ((now (name .entry)) ∷ []) (now (draft .entry))) (now (draft .entry)) ⌝ }
     ensures second { λ _. ⌜ now (second .exit) ≡ secondOf (writeAnswer (addition Parts.name ((now (name .entry)) ∷ []) (now (draft .entry)))) ⌝ }
 {
-    give(writer::sections::name(draft, name), second)
+    give(section_writer::name(draft, name), second)
 }
 
 // Adds the information on the block, section 14.
@@ -73,7 +73,7 @@ pub extern "C" fn tb_add_information(draft: &mut [u8], flags: u32, second: &mut 
     ensures draft { λ _. ⌜ now (draft .exit) ≡ draftAfter (addition Parts.information (informationFields flags) (now (draft .entry))) (now (draft .entry)) ⌝ }
     ensures second { λ _. ⌜ now (second .exit) ≡ secondOf (writeAnswer (addition Parts.information (informationFields flags) (now (draft .entry)))) ⌝ }
 {
-    give(writer::sections::information(draft, flags), second)
+    give(section_writer::information(draft, flags), second)
 }
 
 // Adds application data, section 15.
@@ -83,5 +83,5 @@ pub extern "C" fn tb_add_application_data(draft: &mut [u8], data: &[u8], second:
     ensures draft { λ _. ⌜ now (draft .exit) ≡ draftAfter (addition Parts.applicationData ((now («data» .entry)) ∷ []) (now (draft .entry))) (now (draft .entry)) ⌝ }
     ensures second { λ _. ⌜ now (second .exit) ≡ secondOf (writeAnswer (addition Parts.applicationData ((now («data» .entry)) ∷ []) (now (draft .entry)))) ⌝ }
 {
-    give(writer::sections::application_data(draft, data), second)
+    give(section_writer::application_data(draft, data), second)
 }

@@ -17,10 +17,7 @@ pub extern "C" fn tb_add_transport_variant(
     ensures draft { λ _. ⌜ now (draft .exit) ≡ draftAfter (addition Parts.transportVariant ((now (variant .entry)) ∷ []) (now (draft .entry))) (now (draft .entry)) ⌝ }
     ensures second { λ _. ⌜ now (second .exit) ≡ secondOf (writeAnswer (addition Parts.transportVariant ((now (variant .entry)) ∷ []) (now (draft .entry)))) ⌝ }
 {
-    give(
-        writer::subsections::transport_variant(draft, variant),
-        second,
-    )
+    give(subsection_writer::transport_variant(draft, variant), second)
 }
 
 // Adds the rule of the transport key, 0002 of a rule.
@@ -30,7 +27,7 @@ pub extern "C" fn tb_add_transport_rule(draft: &mut [u8], rule_id: &[u8], second
     ensures draft { λ _. ⌜ now (draft .exit) ≡ draftAfter (addition Parts.transportRule ((now («rule_id» .entry)) ∷ []) (now (draft .entry))) (now (draft .entry)) ⌝ }
     ensures second { λ _. ⌜ now (second .exit) ≡ secondOf (writeAnswer (addition Parts.transportRule ((now («rule_id» .entry)) ∷ []) (now (draft .entry)))) ⌝ }
 {
-    give(writer::subsections::transport_rule(draft, rule_id), second)
+    give(subsection_writer::transport_rule(draft, rule_id), second)
 }
 
 // Adds the parameters of an export, 0003 of a rule.
@@ -48,7 +45,7 @@ pub extern "C" fn tb_add_export_parameters(
     ensures second { λ _. ⌜ now (second .exit) ≡ secondOf (writeAnswer (addition Parts.exportParameters (exportFields minimum maximum (now (variant .entry)) (now (vector .entry))) (now (draft .entry)))) ⌝ }
 {
     give(
-        writer::subsections::export_parameters(draft, minimum, maximum, variant, vector),
+        subsection_writer::export_parameters(draft, minimum, maximum, variant, vector),
         second,
     )
 }
@@ -60,7 +57,7 @@ pub extern "C" fn tb_add_source_rule(draft: &mut [u8], rule_id: &[u8], second: &
     ensures draft { λ _. ⌜ now (draft .exit) ≡ draftAfter (addition Parts.sourceRule ((now («rule_id» .entry)) ∷ []) (now (draft .entry))) (now (draft .entry)) ⌝ }
     ensures second { λ _. ⌜ now (second .exit) ≡ secondOf (writeAnswer (addition Parts.sourceRule ((now («rule_id» .entry)) ∷ []) (now (draft .entry)))) ⌝ }
 {
-    give(writer::subsections::source_rule(draft, rule_id), second)
+    give(subsection_writer::source_rule(draft, rule_id), second)
 }
 
 // Adds the parameters of the source token, 0005 of a rule.
@@ -77,7 +74,7 @@ pub extern "C" fn tb_add_token_parameters(
     ensures second { λ _. ⌜ now (second .exit) ≡ secondOf (writeAnswer (addition Parts.tokenParameters ((now (mask .entry)) ∷ (now (template .entry)) ∷ (now («label_template» .entry)) ∷ []) (now (draft .entry)))) ⌝ }
 {
     give(
-        writer::subsections::token_parameters(draft, mask, template, label_template),
+        subsection_writer::token_parameters(draft, mask, template, label_template),
         second,
     )
 }
@@ -96,7 +93,7 @@ pub extern "C" fn tb_add_protection(
     ensures second { λ _. ⌜ now (second .exit) ≡ secondOf (writeAnswer (addition Parts.protection ((now («mac_key» .entry)) ∷ (now (mac .entry)) ∷ (now (mkvp .entry)) ∷ []) (now (draft .entry)))) ⌝ }
 {
     give(
-        writer::subsections::protection(draft, mac_key, mac, mkvp),
+        subsection_writer::protection(draft, mac_key, mac, mkvp),
         second,
     )
 }
@@ -115,7 +112,7 @@ pub extern "C" fn tb_add_dates(
     ensures second { λ _. ⌜ now (second .exit) ≡ secondOf (writeAnswer (addition Parts.dates (dateFields flags (now (activation .entry)) (now (expiration .entry))) (now (draft .entry)))) ⌝ }
 {
     give(
-        writer::subsections::dates(draft, flags, activation, expiration),
+        subsection_writer::dates(draft, flags, activation, expiration),
         second,
     )
 }

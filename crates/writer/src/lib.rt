@@ -1,14 +1,12 @@
-// The writer on a lent draft: start, one addition for each kind, finish. The calls ask nothing.
-pub mod sections; // sections.rt: the additions of the five sections
-pub mod subsections; // subsections.rt: the additions of the seven subsections
-
+// Public: the start and the finish of a lent draft; section_writer and subsection_writer have the additions. The calls ask
+// nothing.
 ghost use mathlib.Core.Path.{_≡_};
 ghost use Rattle.format.specs.Writer.{writeAnswer, draftAfter, start as started};
+use drafts::heads::section_head;
 use fields::two;
 use format::Answer;
 use reading::draft::read_draft;
 use reading::read;
-use sections::section_head;
 use storing::put_four;
 
 // A draft with its header and no sections: the id, 0, the length 8, and four bytes 0. A header begins as a section does.

@@ -6,7 +6,7 @@ use Rattle.trusted_block.proofs.sections.tb_add_application_data.Tie as
 use Rattle.trusted_block.proofs.sections.tb_add_application_data.Reads as reads
 use Rattle.trusted_block.proofs.sections.tb_add_application_data.Lts as lts
 use Rattle.trusted_block.proofs.give.Reads as give-reads
-use Rattle.writer.proofs.sections.application_data.Reads as application-data-reads
+use Rattle.section_writer.proofs.application_data.Reads as application-data-reads
 
 -- src/sections.rt:56:10
 application-data-requires : tie.Need-application-data-requires

@@ -6,7 +6,7 @@ use Rattle.trusted_block.proofs.sections.tb_add_information.Tie as tie
 use Rattle.trusted_block.proofs.sections.tb_add_information.Reads as reads
 use Rattle.trusted_block.proofs.sections.tb_add_information.Lts as lts
 use Rattle.trusted_block.proofs.give.Reads as give-reads
-use Rattle.writer.proofs.sections.information.Reads as information-reads
+use Rattle.section_writer.proofs.information.Reads as information-reads
 
 -- src/sections.rt:46:10
 information-requires : tie.Need-information-requires

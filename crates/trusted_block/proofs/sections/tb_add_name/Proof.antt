@@ -6,7 +6,7 @@ use Rattle.trusted_block.proofs.sections.tb_add_name.Tie as tie
 use Rattle.trusted_block.proofs.sections.tb_add_name.Reads as reads
 use Rattle.trusted_block.proofs.sections.tb_add_name.Lts as lts
 use Rattle.trusted_block.proofs.give.Reads as give-reads
-use Rattle.writer.proofs.sections.name.Reads as name-reads
+use Rattle.section_writer.proofs.name.Reads as name-reads
 
 -- src/sections.rt:36:10
 name-requires : tie.Need-name-requires

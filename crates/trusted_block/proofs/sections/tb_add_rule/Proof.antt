@@ -6,7 +6,7 @@ use Rattle.trusted_block.proofs.sections.tb_add_rule.Tie as tie
 use Rattle.trusted_block.proofs.sections.tb_add_rule.Reads as reads
 use Rattle.trusted_block.proofs.sections.tb_add_rule.Lts as lts
 use Rattle.trusted_block.proofs.give.Reads as give-reads
-use Rattle.writer.proofs.sections.rule.Reads as rule-reads
+use Rattle.section_writer.proofs.rule.Reads as rule-reads
 
 -- src/sections.rt:26:10
 rule-requires : tie.Need-rule-requires

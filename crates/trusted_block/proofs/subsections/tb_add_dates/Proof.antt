@@ -6,7 +6,7 @@ use Rattle.trusted_block.proofs.subsections.tb_add_dates.Tie as tie
 use Rattle.trusted_block.proofs.subsections.tb_add_dates.Reads as reads
 use Rattle.trusted_block.proofs.subsections.tb_add_dates.Lts as lts
 use Rattle.trusted_block.proofs.give.Reads as give-reads
-use Rattle.writer.proofs.subsections.dates.Reads as dates-reads
+use Rattle.subsection_writer.proofs.dates.Reads as dates-reads
 
 -- src/subsections.rt:76:10
 dates-requires : tie.Need-dates-requires

@@ -6,7 +6,7 @@ use Rattle.trusted_block.proofs.subsections.tb_add_export_parameters.Ti
 use Rattle.trusted_block.proofs.subsections.tb_add_export_parameters.Reads as reads
 use Rattle.trusted_block.proofs.subsections.tb_add_export_parameters.Lts as lts
 use Rattle.trusted_block.proofs.give.Reads as give-reads
-use Rattle.writer.proofs.subsections.export_parameters.Reads as export-parameters-reads
+use Rattle.subsection_writer.proofs.export_parameters.Reads as export-parameters-reads
 
 -- src/subsections.rt:36:10
 export-parameters-requires : tie.Need-export-parameters-requires

@@ -6,7 +6,7 @@ use Rattle.trusted_block.proofs.subsections.tb_add_protection.Tie as ti
 use Rattle.trusted_block.proofs.subsections.tb_add_protection.Reads as reads
 use Rattle.trusted_block.proofs.subsections.tb_add_protection.Lts as lts
 use Rattle.trusted_block.proofs.give.Reads as give-reads
-use Rattle.writer.proofs.subsections.protection.Reads as protection-reads
+use Rattle.subsection_writer.proofs.protection.Reads as protection-reads
 
 -- src/subsections.rt:66:10
 protection-requires : tie.Need-protection-requires

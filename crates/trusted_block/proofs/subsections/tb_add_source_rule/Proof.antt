@@ -6,7 +6,7 @@ use Rattle.trusted_block.proofs.subsections.tb_add_source_rule.Tie as t
 use Rattle.trusted_block.proofs.subsections.tb_add_source_rule.Reads as reads
 use Rattle.trusted_block.proofs.subsections.tb_add_source_rule.Lts as lts
 use Rattle.trusted_block.proofs.give.Reads as give-reads
-use Rattle.writer.proofs.subsections.source_rule.Reads as source-rule-reads
+use Rattle.subsection_writer.proofs.source_rule.Reads as source-rule-reads
 
 -- src/subsections.rt:46:10
 source-rule-requires : tie.Need-source-rule-requires

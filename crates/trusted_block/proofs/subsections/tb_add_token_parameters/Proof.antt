@@ -6,7 +6,7 @@ use Rattle.trusted_block.proofs.subsections.tb_add_token_parameters.Tie
 use Rattle.trusted_block.proofs.subsections.tb_add_token_parameters.Reads as reads
 use Rattle.trusted_block.proofs.subsections.tb_add_token_parameters.Lts as lts
 use Rattle.trusted_block.proofs.give.Reads as give-reads
-use Rattle.writer.proofs.subsections.token_parameters.Reads as token-parameters-reads
+use Rattle.subsection_writer.proofs.token_parameters.Reads as token-parameters-reads
 
 -- src/subsections.rt:56:10
 token-parameters-requires : tie.Need-token-parameters-requires

@@ -6,7 +6,7 @@ use Rattle.trusted_block.proofs.subsections.tb_add_transport_rule.Tie a
 use Rattle.trusted_block.proofs.subsections.tb_add_transport_rule.Reads as reads
 use Rattle.trusted_block.proofs.subsections.tb_add_transport_rule.Lts as lts
 use Rattle.trusted_block.proofs.give.Reads as give-reads
-use Rattle.writer.proofs.subsections.transport_rule.Reads as transport-rule-reads
+use Rattle.subsection_writer.proofs.transport_rule.Reads as transport-rule-reads
 
 -- src/subsections.rt:26:10
 transport-rule-requires : tie.Need-transport-rule-requires

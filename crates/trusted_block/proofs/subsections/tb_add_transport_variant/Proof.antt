@@ -6,7 +6,7 @@ use Rattle.trusted_block.proofs.subsections.tb_add_transport_variant.Ti
 use Rattle.trusted_block.proofs.subsections.tb_add_transport_variant.Reads as reads
 use Rattle.trusted_block.proofs.subsections.tb_add_transport_variant.Lts as lts
 use Rattle.trusted_block.proofs.give.Reads as give-reads
-use Rattle.writer.proofs.subsections.transport_variant.Reads as transport-variant-reads
+use Rattle.subsection_writer.proofs.transport_variant.Reads as transport-variant-reads
 
 -- src/subsections.rt:16:10
 transport-variant-requires : tie.Need-transport-variant-requires

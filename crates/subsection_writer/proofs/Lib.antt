@@ -1,0 +1,2 @@
+pub mod SubsectionBytes
+pub mod NamedRules
