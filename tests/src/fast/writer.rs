@@ -145,9 +145,7 @@ fn write_subsection(part: &Part, bytes: &mut [u8], first: &[u8]) {
             let z = [one_byte(label)];
             put(bytes, &[first, &fixed, mask, template, &z, label]);
         }
-        Part::Protection { mac_key, mac, mkvp } => {
-            put(bytes, &[first, &[0], mac_key, mac, mkvp]);
-        }
+        Part::Protection { mac_key, mac, mkvp } => put(bytes, &[first, &[0], mac_key, mac, mkvp]),
         Part::Dates {
             flags,
             activation,
