@@ -1,19 +1,19 @@
 -- The reading accepts exactly the written forms that keep the rules: a token's and a draft's by one argument.
-use mathlib.Core.Path.{_≡_, refl, sym, ap, ap₂, _∙_, subst}
+use mathlib.Core.Path.{_≡_, refl, sym, ap, ap₂, _∙_}
 use mathlib.Core.Bool.{Bool, true, false, not, _&&_, _||_}
 use mathlib.Core.List.{List, [], _∷_, _++_, append-nil}
-use Prim.Native.Nat.{ℕ, zero, suc, _+_, _^_, _≤_, _<_}
+use Prim.Native.Nat.{ℕ, suc, _+_, _^_, _≤_, _<_}
 use native.Mathlib.Omega.{arith}
 use lib.Dec.{eqb, leb}
-use lib.ListN.{length, take, drop, length-append, length-drop}
-use lib.Seq.{take-at, take-all, length-take-le}
+use lib.ListN.{length, take, drop, length-append}
+use lib.Seq.{take-at, take-all}
 use borrow.Author.Tests.{eq-eqb, eqb-true, le-leb, leb-true}
-use Rattle.format.specs.Bytes.{All, Bytes, bytesAt, allZero}
+use Rattle.format.specs.Bytes.{All, Bytes}
 use Rattle.format.specs.Layout.{fits}
-use Rattle.format.specs.Parts.{Kind, information, protection, layout, Part, writeParts, written, joins, Choice, Stateable, WrittenForm}
-use Rattle.format.specs.Rules.{Check, external, checks, Section, sectionsOf, has, mayBothStand, otherKind, maskCovers, hasRequired}
+use Rattle.format.specs.Parts.{information, protection, layout, Part, writeParts, written, Choice, WrittenForm}
+use Rattle.format.specs.Rules.{external, checks, Section, sectionsOf, has, otherKind, maskCovers, hasRequired}
 use Rattle.format.specs.Legal.{Pairwise, knownId, Lawful, Complete, Legal}
-use Rattle.format.specs.Reading.{found, idOf, stated, tested, kindBefore, sections, lengthAllowed, headerChecks, reading, partsOf}
+use Rattle.format.specs.Reading.{found, idOf, stated, kindBefore, sections, lengthAllowed, headerChecks, reading, partsOf}
 use Rattle.format.proofs.Numbers.{bytes-take, bytes-drop}
 use Rattle.format.proofs.Finding.{and-split, and-join}
 use Rattle.format.proofs.Unique.{written-length}

@@ -1,30 +1,30 @@
 -- What an accepted addition makes of any lent draft: the added bytes, the header's length and, for a subsection, its
 -- section's length; every other byte stays.
-use mathlib.Core.Path.{_≡_, refl, sym, ap, ap₂, _∙_, subst}
+use mathlib.Core.Path.{_≡_, refl, sym, ap, ap₂, _∙_}
 use mathlib.Core.Bool.{Bool, true, false, not, _&&_, _||_}
-use mathlib.Core.List.{List, [], _∷_, _++_, append-assoc, append-nil}
-use Prim.Native.Nat.{ℕ, zero, suc, _+_, _^_, _≤_, _<_}
+use mathlib.Core.List.{List, [], _∷_, _++_, append-assoc}
+use Prim.Native.Nat.{ℕ, _+_}
 use native.Mathlib.Omega.{arith}
 use lib.Dec.{eqb, leb}
 use lib.ListN.{length, take, drop, length-append, take-append-drop}
-use lib.Seq.{take-at, drop-at}
+use lib.Seq.{drop-at}
 use borrow.Author.Tests.{eqb-true}
-use Rattle.format.specs.Bytes.{All, Bytes}
-use Rattle.format.specs.Layout.{Fields, fits, write}
-use Rattle.format.specs.Parts.{Kind, sectionId, isSubsection, layout, Part, size, span, writeParts, written, joins, header}
-use Rattle.format.specs.Rules.{external, Section, sectionsOf}
+use Rattle.format.specs.Bytes.{Bytes}
+use Rattle.format.specs.Layout.{fits, write}
+use Rattle.format.specs.Parts.{sectionId, isSubsection, layout, Part, size, span, writeParts, written, joins, header}
+use Rattle.format.specs.Rules.{external, Section}
 use Rattle.format.specs.Reading.{found, idOf, stated, reading, partsOf}
 use Rattle.format.specs.Writer.{longer, addition}
 use Rattle.format.proofs.Finding.{and-split, sectionId-pos}
-use Rattle.format.proofs.Unique.{size-any, written-length}
+use Rattle.format.proofs.Unique.{written-length}
 use Rattle.format.proofs.Tests.{needed, found-inj, followed}
-use Rattle.format.proofs.Grouping.{all-split, group-flat, parts-last, parts-then-section, span-le}
+use Rattle.format.proofs.Grouping.{all-split, parts-last, parts-then-section, span-le}
 use Rattle.format.proofs.Sound.{GoodSection, subs-of}
 use Rattle.format.proofs.Complete.{part-stated}
-use Rattle.format.proofs.Flat.{grouped}
 use Rattle.format.proofs.Accepted.{reading-sound, good-choice, good-lawful}
 use Rattle.format.proofs.Writing.{Draft, draft-of, draft-front, draft-header}
-use Rattle.format.proofs.Changes.{restate, placeBehind, section-added, sub-added}
+use Rattle.format.proofs.Changes.{section-added, sub-added}
+use Rattle.format.specs.Claims.{restate, placeBehind}
 
 -- Any bytes that read as a draft are the draft of the parts found.
 pub any-draft : (d : List ℕ) (ss : List Section) → Bytes d → reading false d ≡ found ss → Draft (idOf d) (partsOf ss) d

@@ -1,23 +1,23 @@
 -- The beginnings of a choice: written forms as they grow, and that the rules but those of refusal 20 hold of every
 -- beginning of a list of parts that keeps them.
-use mathlib.Core.Path.{_≡_, refl, sym, ap, ap₂, _∙_, subst}
-use mathlib.Core.Bool.{Bool, true, false, not, _&&_, _||_}
-use mathlib.Core.List.{List, [], _∷_, _++_, append-assoc, append-nil, map}
-use Prim.Native.Nat.{ℕ, zero, suc, _+_, _^_, _≤_, _<_}
+use mathlib.Core.Path.{_≡_, refl, ap, subst}
+use mathlib.Core.Bool.{Bool, true, false, not, _||_}
+use mathlib.Core.List.{List, [], _∷_, _++_, map}
+use Prim.Native.Nat.{ℕ, _+_, _≤_, _<_}
 use native.Mathlib.Omega.{arith}
 use lib.Dec.{eqb, leb}
-use lib.ListN.{length, getD, drop, replicate, length-append}
+use lib.ListN.{length, getD, drop, replicate}
 use Rattle.format.specs.Bytes.{All, Bytes, bigEndian, number}
 use Rattle.format.specs.Layout.{Item, code, zeros, own, count, fixed, counted, Fields, write, fits}
 use Rattle.format.specs.Parts.{Kind, exportParameters, tokenParameters, sectionId, sameKind, isSubsection, layout, header, Part, size, span, writeParts, written, joins, Choice}
-use Rattle.format.specs.Rules.{Check, external, checks, Section, frontSubs, sectionsOf, ofKind, each, mayBothStand, otherKind, maskCovers}
+use Rattle.format.specs.Rules.{external, checks, Section, frontSubs, sectionsOf, ofKind, each, mayBothStand, otherKind, maskCovers}
 use Rattle.format.specs.Legal.{Pairwise, Lawful}
 use Rattle.format.proofs.Numbers.{bytes-append, bytes-bigEndian, bytes-zeros}
 use Rattle.format.proofs.Finding.{and-split, and-join}
 use Rattle.format.proofs.Tests.{Hold}
-use Rattle.format.proofs.Unique.{size-any, written-length}
+use Rattle.format.proofs.Unique.{written-length}
 use Rattle.format.proofs.Reaching.{sizes, sizes-written}
-use Rattle.format.proofs.Grouping.{is-true, is-false, all-split}
+use Rattle.format.proofs.Grouping.{all-split}
 
 -- ---- bytes and lengths
 

@@ -1,8 +1,8 @@
 -- The bytes that an addition changes: the added ones, the header's length and, for a subsection, its section's length.
-use mathlib.Core.Path.{_≡_, refl, sym, ap, ap₂, _∙_, subst}
+use mathlib.Core.Path.{_≡_, refl, sym, ap, ap₂, _∙_}
 use mathlib.Core.Bool.{Bool, true, false}
 use mathlib.Core.List.{List, [], _∷_, _++_, append-assoc, append-nil}
-use Prim.Native.Nat.{ℕ, zero, suc, _+_, _/_, _%_, _^_, _≤_, _<_}
+use Prim.Native.Nat.{ℕ, _+_, _/_, _%_}
 use native.Mathlib.Nat.{suc-add, zero-add}
 use native.Mathlib.Omega.{arith}
 use lib.ListN.{length, getD, drop, set, replicate}
@@ -15,10 +15,7 @@ use Rattle.format.proofs.Unique.{size-any, written-length}
 use Rattle.format.proofs.PartForm.{plain, body-plain}
 use Rattle.format.proofs.Grouping.{Subs, parts-then-section, span-sub, span-section, subs-then-parts, subs-long, parts-last, all-join}
 use Rattle.format.proofs.Beginnings.{written-more}
-
--- A new length n in the two bytes behind place at + 2.
-abbrev pub restate : ℕ → ℕ → List ℕ → List ℕ
-restate at n bs = set (set bs (at + 2) (n / 256 % 256)) (at + 3) (n % 256)
+pub use Rattle.format.specs.Claims.{restate, placeBehind}
 
 -- A byte set behind a front.
 set-behind : (a b : List ℕ) (j v : ℕ) → set (a ++ b) (length a + j) v ≡ a ++ set b j v
@@ -68,10 +65,6 @@ section-added i ps p f =
     ap₂ (λ (m : ℕ) (y : List ℕ). write m header ((i ∷ []) ∷ []) ++ y) n
     (parts-then-section ps p [] f ∙ ap (λ (y : List ℕ). writeParts ps ++ y) one)
     ∙ header-length i ps (length (written i ps) + size p) w
-
--- The place of the section behind these.
-abbrev pub placeBehind : List Section → ℕ
-placeBehind ss = 8 + length (writeParts (partsOf ss))
 
 -- A subsection's bytes behind those of its section, whose length grows.
 sub-bytes : (s : Section) (p : Part) → isSubsection (s .head .kind) ≡ false → Subs (s .subs) → isSubsection (p .kind) ≡ true

@@ -6,25 +6,25 @@ use mathlib.Core.Option.{Option, none, some}
 use Prim.Native.Nat.{ℕ, zero, suc, _+_, _-_, _^_, _≤_, _<_}
 use native.Mathlib.Omega.{arith}
 use lib.Dec.{eqb, leb}
-use lib.ListN.{length, getD, take, drop, replicate, length-append, length-drop, length-replicate}
-use lib.Seq.{take-at, drop-at, length-take-le}
-use borrow.Author.Tests.{eq-eqb, le-leb, not-true, not-false}
-use Rattle.format.specs.Bytes.{All, Bytes, number, bytesAt, allZero, sameBytes}
+use lib.ListN.{length, getD, drop, length-append, length-replicate}
+use lib.Seq.{drop-at}
+use borrow.Author.Tests.{eq-eqb, le-leb, not-true}
+use Rattle.format.specs.Bytes.{All, number, bytesAt}
 use Rattle.format.specs.Layout.{Item, code, zeros, own, count, fixed, counted, Fields, fits, write, least}
 use Rattle.format.specs.Parts.{Kind, rule, information, sectionId, tag, sameKind, sectionKind, subsectionKind, isSubsection, layout, Part, size, subsectionsLength, span, writeParts}
-use Rattle.format.specs.Rules.{Check, checks, Section, has, sameRuleId, mayBothStand, otherKind, maskCovers, hasRequired}
+use Rattle.format.specs.Rules.{checks, Section, has, sameRuleId, mayBothStand, otherKind, maskCovers, hasRequired}
 use Rattle.format.specs.Legal.{Pairwise}
 use Rattle.format.specs.Reading.{Outcome, refused, found, fault, need, andThen, idOf, stated, bodySlots, madeLength, partIn, zeroChecks, fieldChecks}
 use Rattle.format.specs.Reading.{tested, subsectionChecks, subsection, subsections, holdsSubs, kindBefore, ruleBefore, sectionChecks}
 use Rattle.format.specs.Reading.{closed, sectionRest, section, sections, partsOf}
-use Rattle.format.proofs.Numbers.{bigEndian-length}
-use Rattle.format.proofs.Finding.{and-join, every-kind, sameKind-eq, sameKind-refl, sectionKind-told, subsectionKind-told}
+use Rattle.format.proofs.Numbers.{bigEndian-length, same-sym}
+use Rattle.format.proofs.Finding.{and-join, every-kind, sameKind-eq, sectionKind-told, subsectionKind-told}
 use Rattle.format.proofs.Fitting.{Fits, part-fits}
 use Rattle.format.proofs.Unique.{size-any, size-pos}
 use Rattle.format.proofs.Tests.{need-passed, then-found, Hold, tests-lead, hold-join}
 use Rattle.format.proofs.PartForm.{Framed, part-read}
-use Rattle.format.proofs.Grouping.{all-split, Subs, parts-then-section, span-sub, span-section, subs-then-parts, subs-long, span-le}
-use Rattle.format.proofs.Sound.{GoodPart, GoodSub, GoodSection, kinds-differ, subs-of, same-sym}
+use Rattle.format.proofs.Grouping.{all-split, parts-then-section, span-sub, span-section, subs-long}
+use Rattle.format.proofs.Sound.{GoodSub, GoodSection, kinds-differ, subs-of}
 
 -- ---- small laws
 

@@ -1,22 +1,19 @@
 -- The rules of a flat list of parts, and of its sections: each follows from the other.
 use mathlib.Core.Path.{_≡_, refl, sym, ap, ap₂, _∙_, subst}
-use mathlib.Core.Bool.{Bool, true, false, not, _&&_, _||_}
-use mathlib.Core.List.{List, [], _∷_, _++_, append-assoc, append-nil}
-use Prim.Native.Nat.{ℕ, zero, suc, _+_, _^_, _≤_, _<_}
+use mathlib.Core.Bool.{Bool, true, false, not, _||_}
+use mathlib.Core.List.{List, [], _∷_, _++_}
+use Prim.Native.Nat.{ℕ, _+_}
 use native.Mathlib.Omega.{arith}
 use lib.Dec.{eqb}
-use lib.ListN.{length}
 use borrow.Author.Tests.{eq-eqb, eqb-true}
-use Rattle.format.specs.Bytes.{All, Bytes}
-use Rattle.format.specs.Layout.{fits}
-use Rattle.format.specs.Parts.{Kind, information, sectionId, sameKind, isSubsection, layout, Part, writeParts, joins}
-use Rattle.format.specs.Rules.{Check, checks, Section, frontSubs, sectionsOf, has, mayBothStand, otherKind, maskCovers, hasRequired}
+use Rattle.format.specs.Bytes.{All}
+use Rattle.format.specs.Parts.{Kind, sectionId, sameKind, isSubsection, Part, joins}
+use Rattle.format.specs.Rules.{Section, frontSubs, sectionsOf, has, otherKind, maskCovers, hasRequired}
 use Rattle.format.specs.Legal.{Pairwise}
 use Rattle.format.specs.Reading.{kindBefore, partsOf}
 use Rattle.format.proofs.Finding.{and-split, and-join, sameKind-eq, sectionId-pos}
-use Rattle.format.proofs.Tests.{Hold}
-use Rattle.format.proofs.Grouping.{is-true, is-false, all-join, all-split, all-map, Subs, Grouped, group-flat}
-use Rattle.format.proofs.Sound.{GoodPart, GoodSub, GoodSection, GoodSections, subs-of}
+use Rattle.format.proofs.Grouping.{is-true, is-false, all-join, all-map, Grouped}
+use Rattle.format.proofs.Sound.{GoodPart, GoodSub, GoodSection, subs-of}
 
 -- ---- from sections to parts
 

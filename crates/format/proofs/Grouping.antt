@@ -1,20 +1,17 @@
 -- Parts as a flat list and as sections with their subsections: the bytes of one after the other, and that grouping undoes
 -- laying flat.
-use mathlib.Core.Path.{_≡_, refl, sym, ap, ap₂, _∙_, subst}
-use mathlib.Core.Bool.{Bool, true, false, not, _&&_, _||_}
+use mathlib.Core.Path.{_≡_, refl, sym, ap, ap₂, _∙_}
+use mathlib.Core.Bool.{Bool, true, false}
 use mathlib.Core.List.{List, [], _∷_, _++_, append-assoc, append-nil}
-use Prim.Native.Nat.{ℕ, zero, suc, _+_, _^_, _≤_, _<_}
+use Prim.Native.Nat.{ℕ, _+_, _^_, _≤_, _<_}
 use native.Mathlib.Nat.{add-zero}
 use native.Mathlib.Omega.{arith}
-use lib.Dec.{eqb}
 use lib.ListN.{length, length-append}
-use borrow.Author.Tests.{eq-eqb, eqb-true}
 use Rattle.format.specs.Bytes.{All}
-use Rattle.format.specs.Layout.{Fields, write}
-use Rattle.format.specs.Parts.{Kind, sectionId, isSubsection, layout, Part, size, subsectionsLength, span, writeParts, joins, Stateable}
+use Rattle.format.specs.Layout.{write}
+use Rattle.format.specs.Parts.{isSubsection, layout, Part, size, subsectionsLength, span, writeParts, Stateable}
 use Rattle.format.specs.Rules.{Section, frontSubs, sectionsOf}
 use Rattle.format.specs.Reading.{partsOf}
-use Rattle.format.proofs.Finding.{and-split, and-join, sectionId-pos}
 use Rattle.format.proofs.Unique.{size-any}
 
 -- ---- a choice by a test, and lists whose elements all have a property

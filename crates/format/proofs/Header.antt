@@ -1,18 +1,17 @@
 -- The header in bytes: what its tests say is that it is written so, and a written header passes them.
-use mathlib.Core.Path.{_≡_, refl, sym, ap, ap₂, _∙_, subst}
-use mathlib.Core.Bool.{Bool, true, false, not, _&&_}
-use mathlib.Core.List.{List, [], _∷_, _++_, append-assoc, append-nil}
-use Prim.Native.Nat.{ℕ, zero, suc, _+_, _-_, _*_, _%_, _^_, _≤_, _<_}
+use mathlib.Core.Path.{_≡_, refl, sym, ap, ap₂, _∙_}
+use mathlib.Core.Bool.{true}
+use mathlib.Core.List.{List, [], _∷_, _++_, append-assoc}
+use Prim.Native.Nat.{ℕ, _+_, _-_, _^_, _≤_, _<_}
 use native.Mathlib.Omega.{arith}
 use lib.ListN.{length, getD, take, drop, length-drop, take-append-drop}
 use lib.Seq.{take-at, take-take, length-take-le}
 use Rattle.format.specs.Bytes.{Bytes, number, bytesAt, allZero}
-use Rattle.format.specs.Layout.{Fields, write, slots, fieldsIn, endOf}
+use Rattle.format.specs.Layout.{Fields, write}
 use Rattle.format.specs.Parts.{header, Part, writeParts, written}
 use Rattle.format.specs.Reading.{idOf, stated}
 use Rattle.format.proofs.Numbers.{bigEndian-number, number-lt, bytes-take, bytes-drop}
-use Rattle.format.proofs.Fitting.{Fits}
-use Rattle.format.proofs.Slots.{Laid, length-at, laid-written, written-laid}
+use Rattle.format.proofs.Slots.{length-at, laid-written, written-laid}
 use Rattle.format.proofs.Unique.{written-length}
 
 -- The number of a single byte.

@@ -1,13 +1,13 @@
 -- The layouts and the tests of their fields are sound: one test, computed over all kinds.
 use mathlib.Core.Path.{_≡_, refl}
 use mathlib.Core.Bool.{Bool, true, false, not, _&&_, _||_}
-use mathlib.Core.List.{List, [], _∷_, _++_}
-use Prim.Native.Nat.{ℕ, zero, suc}
+use mathlib.Core.List.{List, [], _∷_}
+use Prim.Native.Nat.{ℕ, suc}
 use lib.Dec.{eqb, leb, ltb}
 use lib.ListN.{length}
 use Rattle.format.specs.Bytes.{sameBytes}
 use Rattle.format.specs.Layout.{Item, code, zeros, own, count, fixed, counted}
-use Rattle.format.specs.Parts.{Kind, publicKey, kinds, body, layout, kindNumber, sameKind}
+use Rattle.format.specs.Parts.{Kind, publicKey, kinds, body, layout, sameKind}
 use Rattle.format.specs.Rules.{Check}
 use Rattle.format.specs.Reading.{fieldChecks}
 use Rattle.format.proofs.Finding.{every-kind}

@@ -1,40 +1,33 @@
 -- The theorems about the definitions, each beside the sentence that it answers; the proofs stand in the files named by
 -- the `use` lines. Lists of numbers below 256 (`Bytes`) are lists of bytes. Assumes nothing.
-use mathlib.Core.Path.{_≡_, refl, sym, ap, ap₂, _∙_, subst}
-use mathlib.Core.Bool.{Bool, true, false}
+use mathlib.Core.Path.{_≡_, refl, sym, subst}
+use mathlib.Core.Bool.{true, false}
 use mathlib.Core.List.{List, [], _∷_, _++_}
-use mathlib.Core.Logic.{_↔_, _⊎_, inl, inr}
-use Prim.Native.Nat.{ℕ, zero, suc, _+_, _*_, _≤_, _<_}
-use native.Mathlib.Omega.{arith}
-use lib.ListN.{length, take, drop, length-append}
+use mathlib.Core.Logic.{_↔_, _⊎_}
+use Prim.Native.Nat.{ℕ, suc, _+_, _*_, _≤_, _<_}
+use lib.ListN.{length, take, drop}
 use Rattle.format.specs.Bytes.{All, Bytes, bytesAt}
-use Rattle.format.specs.Layout.{write, slots, fieldsIn}
-use Rattle.format.specs.Parts.{Kind, isSubsection, layout, Part, size, written, writeParts, Choice, WrittenForm}
+use Rattle.format.specs.Layout.{write, fieldsIn}
+use Rattle.format.specs.Parts.{isSubsection, layout, Part, size, written, writeParts, WrittenForm}
 use Rattle.format.specs.Rules.{Section}
-use Rattle.format.specs.Legal.{Lawful, Complete, Legal, ruleCount, rulesOfAll, joined}
-use Rattle.format.specs.Reading.{Outcome, refused, found, Fault, stated, reading, rowCount, partsOf, told, answer}
+use Rattle.format.specs.Legal.{Lawful, Complete, Legal, rulesOfAll, joined}
+use Rattle.format.specs.Reading.{refused, found, Fault, stated, reading, answer}
 use Rattle.format.specs.Table.{Placed, placed, rows, columns, tableOf, tableAnswer, tableAfter}
 use Rattle.format.specs.Views.{view, viewAnswer, stepAt}
 use Rattle.format.specs.Writer.{draftAfter, start, addition, finish}
-use Rattle.format.specs.declared.Answer.{Answer}
+use Rattle.format.specs.Claims.{IsRow, Tiles, subsOf, slotsOf, viewsFrom, walk, walkPlace, additions, restate, placeBehind}
+use Rattle.format.specs.Examples.{tokenT, AllHold, starred}
 use Rattle.format.specs.declared.Answer.the-variants.{Accepted, Refused}
-use Rattle.format.specs.declared.Step.the-variants.{Record, End, Stopped}
+use Rattle.format.specs.declared.Step.the-variants.{End, Stopped}
 use Rattle.format.proofs.Accepted as Accepting
-use Rattle.format.proofs.Numbering as Numbering
 use Rattle.format.proofs.Unique as Unique
 use Rattle.format.proofs.Runs as Runs
 use Rattle.format.proofs.Rows as Rows
 use Rattle.format.proofs.Tables as Tables
 use Rattle.format.proofs.Tiling as Tiling
-use Rattle.format.proofs.Tiling.{IsRow, Tiles}
-use Rattle.format.proofs.Owners as Owners
 use Rattle.format.proofs.Viewing as Viewing
-use Rattle.format.proofs.Viewing.{viewsFrom, slotsOf}
 use Rattle.format.proofs.Walking as Walking
-use Rattle.format.proofs.Walking.{walk, walkPlace}
 use Rattle.format.proofs.Writing as Writing
-use Rattle.format.proofs.Writing.{additions}
-use Rattle.format.proofs.Changes.{restate, placeBehind}
 use Rattle.format.proofs.Additions as Additions
 use Rattle.format.proofs.Examples as Examples
 
@@ -72,7 +65,7 @@ rows-tile bs l = Tiling.rows-tile bs l
 
 -- A row's offset and length are those of its part with its subsections, in the token's own bytes.
 pub row-bytes : (bs : List ℕ) (l : Legal bs) (k : ℕ) (x : Placed) → IsRow bs l k x
-    → bytesAt bs (x .row .offset) (x .row .length) ≡ writeParts (x .part ∷ Tiling.subsOf (x .part) (drop (suc k) (l .parts)))
+    → bytesAt bs (x .row .offset) (x .row .length) ≡ writeParts (x .part ∷ subsOf (x .part) (drop (suc k) (l .parts)))
 row-bytes bs l k x r = Tiling.row-bytes bs l k x r
 
 -- Refusal and legality exclude each other.
@@ -211,9 +204,9 @@ added-subsection-changes d p bs b f e = Additions.sub-changes d p bs b f e
 -- ---- examples
 
 -- "The starred examples are shown of the definitions, gathered into a single table under one claim".
-pub starred-examples : Examples.AllHold Examples.starred
+pub starred-examples : AllHold starred
 starred-examples = Examples.starred-hold
 
 -- "a reader that refuses everything (a legal token exists)".
-pub a-legal-token-exists : Legal Examples.tokenT
+pub a-legal-token-exists : Legal tokenT
 a-legal-token-exists = Examples.legal-T

@@ -1,15 +1,17 @@
 -- Laws of lists of bytes and of the numbers that they state, over any width.
 use mathlib.Core.Path.{_≡_, refl, sym, ap, ap₂, _∙_}
+use mathlib.Core.Bool.{Bool, true, false, _&&_}
 use mathlib.Core.List.{List, [], _∷_, _++_, append-assoc, append-nil, head-eq-of-cons-eq, tail-eq-of-cons-eq}
 use Prim.Native.Nat.{ℕ, zero, suc, _+_, _*_, _/_, _%_, _^_, _<_}
 use native.Mathlib.Nat.{div-add-mod', div-lt-iff-lt-mul, pow-suc, add-zero, zero-add}
 use native.Mathlib.Numerals.{add-one}
 use native.Mathlib.Omega.{arith}
 use lib.Arith.{digits-div, digits-mod}
-use lib.Dec.{lit<}
+use lib.Dec.{lit<, eqb}
 use lib.ListN.{length, getD, take, drop, replicate, length-append}
 use lib.Seq.{drop-cons}
-use Rattle.format.specs.Bytes.{Bytes, bigEndian, numberFrom, number, bytesAt}
+use borrow.Author.Tests.{eqb-true, eqb-false, eq-eqb, ne-eqb}
+use Rattle.format.specs.Bytes.{Bytes, bigEndian, numberFrom, number, bytesAt, sameBytes}
 
 -- A number is written in as many bytes as its width says.
 pub bigEndian-length : (w n : ℕ) → length (bigEndian w n) ≡ w
@@ -116,3 +118,18 @@ number-two bs i h =
     let h₀ : i < length bs = omega arith in
     let h₁ : suc i < length bs = omega arith in
     rw (drop-cons bs i 0 h₀, drop-cons bs (suc i) 0 h₁, add-one) (omega arith)
+
+-- Two numbers, and two lists of bytes, are compared in either order.
+pub eqb-sym : (m n : ℕ) → eqb m n ≡ eqb n m
+eqb-sym m n = turned (eqb m n) refl
+  where
+    turned : (v : Bool) → eqb m n ≡ v → v ≡ eqb n m
+    turned true e = sym (eq-eqb n m (sym (eqb-true m n e)))
+    turned false e = sym (ne-eqb n m (λ q. eqb-false m n e (sym q)))
+
+pub same-sym : (a b : List ℕ) → sameBytes a b ≡ sameBytes b a
+unfolding sameBytes
+same-sym [] [] = refl
+same-sym [] (y ∷ b) = refl
+same-sym (x ∷ a) [] = refl
+same-sym (x ∷ a) (y ∷ b) = ap₂ (λ (p q : Bool). p && q) (eqb-sym x y) (same-sym a b)

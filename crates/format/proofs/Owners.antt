@@ -17,8 +17,9 @@ use Rattle.format.proofs.Grouping.{is-true, is-false}
 use Rattle.format.proofs.Reaching.{sizes}
 use Rattle.format.proofs.Elements.{there, there-lt, some-inj}
 use Rattle.format.proofs.Rows.{placed-count}
-use Rattle.format.proofs.Tiling.{IsRow, rows-tile, row-of, subsection-length, section-length}
+use Rattle.format.proofs.Tiling.{rows-tile, row-of, subsection-length, section-length}
 use Rattle.format.proofs.Stepping.{rising}
+use Rattle.format.specs.Claims.{IsRow}
 
 -- The owner of a section's row, for parts that stand behind n rows.
 own-from : (at n o : ℕ) (ps : List Part) (k : ℕ) (x : Placed) → getElem? (placed at n o ps) k ≡ some x

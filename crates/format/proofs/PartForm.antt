@@ -1,18 +1,17 @@
 -- A part in bytes: what its tests say is that it is written so, and a written part passes them.
-use mathlib.Core.Path.{_≡_, refl, sym, ap, ap₂, _∙_, subst}
-use mathlib.Core.Bool.{Bool, true, false, not, _&&_}
+use mathlib.Core.Path.{_≡_, refl, sym, ap, _∙_, subst}
+use mathlib.Core.Bool.{Bool, true, false}
 use mathlib.Core.List.{List, [], _∷_, _++_}
-use Prim.Native.Nat.{ℕ, zero, suc, _+_, _^_, _≤_, _<_}
+use Prim.Native.Nat.{ℕ, suc, _+_, _≤_}
 use native.Mathlib.Omega.{arith}
-use lib.Dec.{eqb}
 use lib.ListN.{length, getD, drop}
 use Rattle.format.specs.Bytes.{Bytes, number, bytesAt, allZero}
 use Rattle.format.specs.Layout.{Item, code, zeros, own, count, fixed, counted, Fields, write, slots, fieldsIn, endOf}
 use Rattle.format.specs.Parts.{Kind, sectionId, tag, body, isSubsection, frame, frameLength, layout, Part, size}
 use Rattle.format.specs.Reading.{idOf, stated, bodySlots, madeLength, partIn, zeroChecks}
-use Rattle.format.proofs.Finding.{and-split, every-kind}
+use Rattle.format.proofs.Finding.{every-kind}
 use Rattle.format.proofs.Fitting.{Fits}
-use Rattle.format.proofs.Slots.{Laid, Reads, sound, laid-written, written-laid}
+use Rattle.format.proofs.Slots.{Laid, sound, laid-written, written-laid}
 use Rattle.format.proofs.Tests.{Hold}
 use Rattle.format.proofs.Unique.{size-any}
 

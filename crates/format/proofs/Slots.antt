@@ -8,7 +8,7 @@ use native.Mathlib.Omega.{arith}
 use lib.Dec.{eqb, ltb}
 use lib.ListN.{length, getD, take, drop, replicate, length-append, length-drop, length-replicate, take-append-drop, List·getD-append}
 use lib.Seq.{length-take-le, getD-append-seam, take-at, drop-at, drop-drop}
-use borrow.Author.Tests.{eqb-true, ltb-true}
+use borrow.Author.Tests.{eqb-true}
 use Rattle.format.specs.Bytes.{Bytes, bigEndian, number, bytesAt, allZero}
 use Rattle.format.specs.Layout.{Item, code, zeros, own, count, fixed, counted, Fields, write, Slot, slots, slotBytes, fieldsIn, endOf}
 use Rattle.format.proofs.Numbers.{bigEndian-length, number-bigEndian, bigEndian-number, number-lt, bytes-take, bytes-drop}

@@ -3,24 +3,23 @@ use mathlib.Core.Path.{_≡_, refl, sym, ap, ap₂, _∙_, subst}
 use mathlib.Core.Bool.{Bool, true, false, not, _&&_, _||_}
 use mathlib.Core.List.{List, [], _∷_, _++_, append-assoc, append-nil}
 use mathlib.Core.Option.{Option, none, some}
-use mathlib.Core.Logic.{_⊎_, inl, inr, ⊎-elim}
-use Prim.Native.Nat.{ℕ, zero, suc, _+_, _-_, _^_, _≤_, _<_}
+use Prim.Native.Nat.{ℕ, zero, suc, _+_, _-_, _≤_}
 use native.Mathlib.Omega.{arith}
 use lib.Dec.{eqb, leb}
 use lib.ListN.{length, getD, take, drop, length-append, length-drop, take-append-drop}
 use lib.Seq.{take-at, take-add, length-take-le, drop-drop}
-use borrow.Author.Tests.{eqb-true, eqb-false, leb-true, not-true, eq-eqb, ne-eqb}
-use Rattle.format.specs.Bytes.{All, Bytes, number, bytesAt, allZero, sameBytes}
-use Rattle.format.specs.Layout.{Item, code, zeros, own, count, fixed, counted, Fields, fits, write, least, slots, fieldsIn, endOf}
+use borrow.Author.Tests.{eqb-true, eqb-false, leb-true, not-true, ne-eqb}
+use Rattle.format.specs.Bytes.{All, Bytes, number, bytesAt}
+use Rattle.format.specs.Layout.{Item, code, zeros, own, count, fixed, counted, fits, write, least, slots, fieldsIn}
 use Rattle.format.specs.Parts.{Kind, rule, information, sectionId, tag, body, frameLength, kindNumber, sameKind, sectionKind, subsectionKind, isSubsection, layout, Part, size, span, writeParts}
-use Rattle.format.specs.Rules.{Check, checks, Section, has, sameRuleId, mayBothStand, otherKind, maskCovers, hasRequired}
+use Rattle.format.specs.Rules.{checks, Section, has, sameRuleId, mayBothStand, otherKind, maskCovers, hasRequired}
 use Rattle.format.specs.Legal.{Pairwise}
 use Rattle.format.specs.Reading.{Outcome, refused, found, fault, idOf, stated, bodySlots, madeLength, partIn, zeroChecks, fieldChecks}
 use Rattle.format.specs.Reading.{tested, subsectionChecks, subsection, subsections, holdsSubs, kindBefore, ruleBefore, sectionChecks}
 use Rattle.format.specs.Reading.{closed, sectionRest, section, sections, partsOf}
-use Rattle.format.proofs.Numbers.{bytes-take, bytes-drop}
+use Rattle.format.proofs.Numbers.{bytes-take, bytes-drop, same-sym}
 use Rattle.format.proofs.Finding.{and-split, sameKind-eq, sectionKind-sound, subsectionKind-sound}
-use Rattle.format.proofs.Fitting.{Fits, Fits-fits}
+use Rattle.format.proofs.Fitting.{Fits-fits}
 use Rattle.format.proofs.Unique.{size-any, size-pos}
 use Rattle.format.proofs.Tests.{refused-not, found-inj, needed, followed, Hold, tests-passed, hold-split}
 use Rattle.format.proofs.PartForm.{Framed, part-written}
@@ -195,21 +194,6 @@ subs-read (suc d) x o before at (suc m) r us h b g e =
     (i .0, i .1 ∙ sub-bytes x o before (f .0) (suc m) r (g .0) s h)
 
 -- ---- sections
-
--- Two lists of bytes are compared in either order.
-pub same-sym : (a b : List ℕ) → sameBytes a b ≡ sameBytes b a
-unfolding sameBytes
-same-sym [] [] = refl
-same-sym [] (y ∷ b) = refl
-same-sym (x ∷ a) [] = refl
-same-sym (x ∷ a) (y ∷ b) = ap₂ (λ (p q : Bool). p && q) (eqb-sym x y) (same-sym a b)
-  where
-    turned : (m n : ℕ) (v : Bool) → eqb m n ≡ v → v ≡ eqb n m
-    turned m n true e = sym (eq-eqb n m (sym (eqb-true m n e)))
-    turned m n false e = sym (ne-eqb n m (λ q. eqb-false m n e (sym q)))
-
-    eqb-sym : (m n : ℕ) → eqb m n ≡ eqb n m
-    eqb-sym m n = turned m n (eqb m n) refl
 
 -- A section whose kind does not stand before may stand behind all earlier ones.
 new-kind : (k : Kind) (s : Section) (before : List Section) → s .head .kind ≡ k → kindBefore k before ≡ false

@@ -15,7 +15,7 @@ use Rattle.format.specs.declared.Step.the-variants.{Record, End, Stopped
 use Rattle.format.proofs.Unique.{size-pos}
 use Rattle.format.proofs.Grouping.{is-true, is-false}
 use Rattle.format.proofs.Elements.{some-inj}
-use Rattle.format.proofs.Tiling.{Tiles}
+use Rattle.format.specs.Claims.{Tiles}
 
 -- ---- rows that lie one behind another
 

@@ -5,7 +5,7 @@ use mathlib.Core.List.{List, [], _∷_, _++_}
 use mathlib.Core.Option.{some}
 use Prim.Native.Nat.{ℕ, zero, suc, _+_, _≤_}
 use native.Mathlib.Omega.{arith}
-use lib.ListN.{length, take, drop, getElem?, length-append, length-drop}
+use lib.ListN.{length, take, drop, getElem?, length-drop}
 use lib.Seq.{take-append-add}
 use Rattle.format.specs.Bytes.{bytesAt}
 use Rattle.format.specs.Layout.{write}
@@ -20,13 +20,9 @@ use Rattle.format.proofs.Unique.{size-any, size-pos, written-length, Fi
 use Rattle.format.proofs.Grouping.{is-true, is-false, span-sub, span-section, span-le}
 use Rattle.format.proofs.Reaching.{sizes-written, sizes}
 use Rattle.format.proofs.Elements.{some-inj}
+use Rattle.format.specs.Claims.{Tiles, IsRow, subsOf}
 
 -- ---- the rows lie one behind another
-
--- The rows from place `at` on lie one behind another, each as long as its part without its subsections, and end at e.
-abbrev pub Tiles : ℕ → List Placed → ℕ → Type 0
-Tiles at [] e = at ≡ e
-Tiles at (x ∷ xs) e = (x .row .offset ≡ at) × Tiles (at + size (x .part)) xs e
 
 -- The rows of parts from place `at` on end where the parts' bytes end.
 pub placed-tile : (at n o : ℕ) (ps : List Part) (e : ℕ) → at + sizes ps ≡ e → Tiles at (placed at n o ps) e
@@ -76,20 +72,12 @@ row-from at n o i bs (p ∷ ps) (suc k) x f e g =
     let q = r .place in
     record { part = r .part; kind = r .kind; place = omega arith; long = r .long; fits = r .fits; bytes = r .bytes }
 
--- Row number k of the token is x.
-abbrev pub IsRow : (bs : List ℕ) → Legal bs → ℕ → Placed → Type 0
-IsRow bs l k x = getElem? (placed 8 0 0 (l .parts)) k ≡ some x
-
 -- Every row of a legal token stands for its part, with the bytes that lie there.
 pub row-of : (bs : List ℕ) (l : Legal bs) (k : ℕ) (x : Placed) → IsRow bs l k x → RowOf 8 bs (l .parts) k x
 row-of bs l k x e =
     let c = l .form .choice in
     let f = fit-parts (l .parts) 0 (c .fit) (c .joined) (l .form .parts) in
     row-from 8 0 0 0 bs (l .parts) k x f (behind-eight bs l) e
-
--- The subsections of a part, the parts behind it given: those in front of the next section, and none for a subsection.
-abbrev pub subsOf : Part → List Part → List Part
-subsOf p ps = elim (isSubsection (p .kind)) [ true ↦ [] | false ↦ frontSubs ps ]
 
 -- The subsections in front have the length that a section adds to its own.
 pub front-sizes : (ps : List Part) → subsectionsLength ps ≡ sizes (frontSubs ps)

@@ -29,7 +29,8 @@ use Rattle.format.proofs.Accepted.{choice-parts, read-legal, legal-read
 use Rattle.format.proofs.Elements.{there, nowhere}
 use Rattle.format.proofs.Cutting.{slot-count, slotted, slots-contiguous, slots-tile, slots-inside}
 use Rattle.format.proofs.Rows.{placed-count}
-use Rattle.format.proofs.Tiling.{IsRow, row-of, row-inside}
+use Rattle.format.proofs.Tiling.{row-of, row-inside}
+use Rattle.format.specs.Claims.{IsRow, slotsOf, viewsFrom}
 
 -- ---- where a field lies
 
@@ -81,10 +82,6 @@ unfolding fieldAt
 no-token bs f k j e = rw (e, fieldAt)
 
 -- ---- the views of a row
-
--- The slots of a row in the token, its offset the first.
-abbrev pub slotsOf : List ℕ → Placed → List Slot
-slotsOf bs x = slots [] (layout (x .part .kind)) (drop (x .row .offset) bs) 0
 
 -- Cutting a row by its layout gives the fields of its part.
 pub cut-row : (bs : List ℕ) (l : Legal bs) (k : ℕ) (x : Placed) → IsRow bs l k x
@@ -180,11 +177,6 @@ field-inside bs l k j o n w = of (getElem? (placed 8 0 0 (l .parts)) k) refl
     of (some x) e = slot x e (getElem? (slotsOf bs x) j) refl (sym (field-at bs l k j x e) ∙ w)
 
 -- ---- the views of a row, laid end to end
-
--- The views of a row's fields from number j on, n of them, laid end to end.
-abbrev pub viewsFrom : List ℕ → ℕ → ℕ → ℕ → List ℕ
-viewsFrom bs k j zero = []
-viewsFrom bs k j (suc n) = view bs k j ++ viewsFrom bs k (suc j) n
 
 -- The views of the fields from j on are the bytes of the slots from j on.
 views-slotted : (bs : List ℕ) (l : Legal bs) (k : ℕ) (x : Placed) → IsRow bs l k x → (n j : ℕ)

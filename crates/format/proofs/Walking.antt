@@ -20,10 +20,11 @@ use Rattle.format.specs.declared.Step.the-variants.{Record, End, Stopped
 use Rattle.format.proofs.Unique.{size-pos}
 use Rattle.format.proofs.Accepted.{legal-read}
 use Rattle.format.proofs.Rows.{placed-count}
-use Rattle.format.proofs.Tiling.{Tiles, rows-tile, IsRow, row-of}
+use Rattle.format.proofs.Tiling.{rows-tile, row-of}
 use Rattle.format.proofs.Stepping.{between, rising, next-tile, last-tile, rowsOf, step-row, step-end}
 use Rattle.format.proofs.Stepping.{step-elsewhere}
 use Rattle.format.proofs.Viewing.{legal-parts}
+use Rattle.format.specs.Claims.{Tiles, IsRow, walk, walkPlace}
 
 -- ---- one step
 
@@ -100,16 +101,6 @@ one-row bs l j k x y e f q = go (ltb j k) (ltb k j) refl refl
     go false false v w = let a = ltb-false j k v in let c = ltb-false k j w in omega arith
 
 -- ---- the walk
-
--- The records from a place on, following each one's next place, in d turns at most.
-abbrev pub walk : ℕ → List ℕ → ℕ → List Row
-walk zero bs at = []
-walk (suc d) bs at = elim (stepAt bs at) [ Record r next ↦ r ∷ walk d bs next | End ↦ [] | Stopped n p ↦ [] ]
-
--- The place that d steps lead to.
-abbrev pub walkPlace : ℕ → List ℕ → ℕ → ℕ
-walkPlace zero bs at = at
-walkPlace (suc d) bs at = walkPlace d bs (placeBehind at (stepAt bs at))
 
 -- The steps at these rows give them, with the places where their parts end.
 abbrev Steps : List ℕ → List Placed → Type 0

@@ -1,33 +1,32 @@
 -- The writer's calls over a whole run: what is added is what is read, what is finished is legal, and the parts of any
 -- legal token added in order give back its bytes.
 use mathlib.Core.Path.{_≡_, refl, sym, ap, ap₂, _∙_, subst}
-use mathlib.Core.Bool.{Bool, true, false, not, _&&_, _||_}
+use mathlib.Core.Bool.{true, false, not, _&&_, _||_}
 use mathlib.Core.List.{List, [], _∷_, _++_, append-assoc, append-nil}
 use mathlib.Core.Logic.{_↔_}
-use Prim.Native.Nat.{ℕ, zero, suc, _+_, _^_, _≤_, _<_}
+use Prim.Native.Nat.{ℕ, _+_, _^_, _≤_, _<_}
 use native.Mathlib.Omega.{arith}
-use lib.Dec.{eqb, leb, lit≤}
+use lib.Dec.{leb, lit≤}
 use lib.ListN.{length, take, drop, length-append, length-drop}
-use lib.Seq.{take-at, drop-at, take-all, length-take-le}
-use borrow.Author.Tests.{le-leb, leb-true, eq-eqb}
+use lib.Seq.{take-at, take-all}
+use borrow.Author.Tests.{le-leb, leb-true}
 use Rattle.format.specs.Bytes.{All, Bytes}
-use Rattle.format.specs.Layout.{Fields, fits}
-use Rattle.format.specs.Parts.{Kind, layout, Part, size, writeParts, written, joins, Choice, WrittenForm}
-use Rattle.format.specs.Rules.{Check, external, checks, Section, sectionsOf, hasRequired}
-use Rattle.format.specs.Legal.{knownId, Lawful, Complete, Legal}
-use Rattle.format.specs.Reading.{Outcome, refused, found, need, andThen, idOf, stated, told, lengthAllowed, reading, partsOf}
+use Rattle.format.specs.Layout.{fits}
+use Rattle.format.specs.Parts.{layout, Part, size, written, joins, Choice, WrittenForm}
+use Rattle.format.specs.Rules.{external, Section, sectionsOf, hasRequired}
+use Rattle.format.specs.Legal.{knownId, Lawful, Legal}
+use Rattle.format.specs.Reading.{Outcome, refused, found, andThen, idOf, stated, told, lengthAllowed, reading, partsOf}
 use Rattle.format.specs.Writer.{draftAfter, start, longer, addition, finish}
-use Rattle.format.specs.declared.Answer.{Answer}
-use Rattle.format.specs.declared.Answer.the-variants.{Accepted, Refused}
+use Rattle.format.specs.declared.Answer.the-variants.{Accepted}
 use Rattle.format.proofs.Finding.{and-split, and-join}
-use Rattle.format.proofs.Unique.{size-pos, written-length, one-choice}
-use Rattle.format.proofs.Tests.{refused-not, found-inj, needed, need-passed, followed, then-found}
-use Rattle.format.proofs.Grouping.{all-join, all-split, all-map, stateable, group-flat}
-use Rattle.format.proofs.Sound.{GoodPart, GoodSection, GoodSections}
+use Rattle.format.proofs.Unique.{written-length, one-choice}
+use Rattle.format.proofs.Tests.{found-inj, needed, need-passed, followed, then-found}
+use Rattle.format.proofs.Grouping.{all-join, all-split, stateable}
 use Rattle.format.proofs.Header.{header-read}
-use Rattle.format.proofs.Flat.{grouped, choice-flat}
+use Rattle.format.proofs.Flat.{choice-flat}
 use Rattle.format.proofs.Accepted.{reading-sound, reading-complete, good-choice, good-lawful, lawful-good, choice-parts, read-legal, legal-read}
 use Rattle.format.proofs.Beginnings.{written-bytes, written-more, beginning-le, choice-front, lawful-front}
+use Rattle.format.specs.Claims.{additions}
 
 -- ---- a draft that holds a choice
 
@@ -173,11 +172,6 @@ adding i ps d p w c l h k =
     ∙ ap {B = Outcome (List ℕ)} found form
 
 -- ---- a run of additions
-
--- The parts added one after another to a draft; what is found is the draft as it then is.
-unfoldable pub additions : List Part → List ℕ → Outcome (List ℕ)
-additions [] d = found d
-additions (p ∷ ps) d = andThen (addition (p .kind) (p .fields) d) (λ bs. additions ps (draftAfter (found bs) d))
 
 -- Whatever additions were accepted, the draft holds the parts added, in that order.
 pub run-read : (qs : List Part) (i : ℕ) (ps : List Part) (d e : List ℕ) → Draft i ps d → All (λ (p : Part). All Bytes (p .fields)) qs

@@ -2,10 +2,10 @@
 -- writer is lent, the least length, and the place of every field in bytes that are read.
 use mathlib.Core.Bool.{Bool, true, false, _&&_}
 use mathlib.Core.List.{List, [], _∷_, _++_}
-use Prim.Native.Nat.{ℕ, zero, suc, _+_, _^_}
+use Prim.Native.Nat.{ℕ, _+_, _^_}
 use lib.Dec.{eqb, ltb}
 use lib.ListN.{length, getD, drop, replicate}
-use Rattle.format.specs.Bytes.{bigEndian, number, bytesAt, allZero}
+use Rattle.format.specs.Bytes.{bigEndian, number, bytesAt}
 
 -- a field of a layout, with its length in bytes
 pub data Item : Type 0 where

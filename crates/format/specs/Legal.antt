@@ -1,12 +1,12 @@
 -- The legal tokens: the written forms of the choices that keep every rule.
 use mathlib.Core.Path.{_≡_}
-use mathlib.Core.Bool.{Bool, true, false, not, _&&_, _||_}
+use mathlib.Core.Bool.{Bool, true, false, _||_}
 use mathlib.Core.List.{List, [], _∷_, _++_}
-use Prim.Native.Nat.{ℕ, zero, suc, _+_, _≤_}
+use Prim.Native.Nat.{ℕ, _+_, _≤_}
 use lib.Dec.{eqb}
 use lib.ListN.{length}
-use Rattle.format.specs.Bytes.{All, Bytes}
-use Rattle.format.specs.Parts.{Kind, rule, information, sameKind, Part, WrittenForm}
+use Rattle.format.specs.Bytes.{All}
+use Rattle.format.specs.Parts.{rule, information, sameKind, Part, WrittenForm}
 use Rattle.format.specs.Rules.{Check, external, checks, Section, sectionsOf, mayBothStand, otherKind, maskCovers, has, hasRequired}
 
 -- any two elements of the list, the earlier first, pass the test

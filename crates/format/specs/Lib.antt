@@ -9,3 +9,5 @@ pub mod Table
 pub mod Views
 pub mod Writer
 pub mod Lines
+pub mod Claims
+pub mod Examples

@@ -1,15 +1,14 @@
 -- The answer for any bytes: the first fault in 01's order, or the parts that were read. One definition serves a token
 -- and a draft, which is read under all rules but those of refusal 20.
-use mathlib.Core.Path.{_≡_}
 use mathlib.Core.Bool.{Bool, true, false, not, _&&_, _||_}
 use mathlib.Core.List.{List, [], _∷_, _++_}
-use mathlib.Core.Option.{Option, none, some}
+use mathlib.Core.Option.{none, some}
 use Prim.Native.Nat.{ℕ, zero, suc, _+_, _-_}
-use lib.Dec.{eqb, ltb, leb}
-use lib.ListN.{length, getD, take, drop}
-use Rattle.format.specs.Bytes.{number, bytesAt, allZero, sameBytes}
-use Rattle.format.specs.Layout.{Item, code, zeros, own, count, fixed, counted, least, Slot, slots, slotBytes, fieldsIn, endOf}
-use Rattle.format.specs.Parts.{Kind, rule, information, exportParameters, tokenParameters, body, layout, frameLength, kinds, isSubsection, sectionId}
+use lib.Dec.{eqb, leb}
+use lib.ListN.{length, take, drop}
+use Rattle.format.specs.Bytes.{number, bytesAt, allZero}
+use Rattle.format.specs.Layout.{code, zeros, own, count, fixed, counted, least, Slot, slots, slotBytes, fieldsIn, endOf}
+use Rattle.format.specs.Parts.{Kind, rule, information, tokenParameters, body, layout, frameLength}
 use Rattle.format.specs.Parts.{sameKind, sectionKind, subsectionKind, Part, size}
 use Rattle.format.specs.Rules.{Check, check, external, checks, Section, has, sameRuleId, maskCovers, hasRequired}
 use Rattle.format.specs.Legal.{knownId}

@@ -1,12 +1,11 @@
 -- The rules beyond the layout, each a named condition on the parts. A rule on a part's own fields is a `Check`, with
 -- the field that is tested and the refusal; the rules between parts follow.
-use mathlib.Core.Path.{_≡_}
 use mathlib.Core.Bool.{Bool, true, false, not, _&&_, _||_}
-use mathlib.Core.List.{List, [], _∷_, _++_}
-use Prim.Native.Nat.{ℕ, zero, suc, _+_}
-use lib.Dec.{eqb, ltb, leb}
+use mathlib.Core.List.{List, [], _∷_}
+use Prim.Native.Nat.{ℕ, zero}
+use lib.Dec.{eqb, leb}
 use lib.ListN.{length, getD}
-use Rattle.format.specs.Bytes.{All, number, allZero, sameBytes}
+use Rattle.format.specs.Bytes.{number, allZero, sameBytes}
 use Rattle.format.specs.Layout.{Fields}
 use Rattle.format.specs.Parts.{Kind, publicKey, rule, transportVariant, transportRule, exportParameters, sourceRule, tokenParameters}
 use Rattle.format.specs.Parts.{name, information, protection, dates, applicationData, isSubsection, sameKind, Part}
@@ -70,7 +69,7 @@ labelLength f = eqb (length f) 0 || eqb (length f) 64
 abbrev pub patternAllowed : Bool → List ℕ → Bool
 patternAllowed x f = not x || allZero f
 
--- the rules of the dates, with the field's number: both exist, activation is not after expiration
+-- the rules of the dates, with the field's number: both exist, activation is not after expiration, whatever the flags
 abbrev pub dateRules : List ℕ → List ℕ → List ℕ → List Check
 dateRules flags activation expiration =
     check 5 19 (dateExists activation)

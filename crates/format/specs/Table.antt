@@ -1,7 +1,7 @@
 -- The table of an accepted token: a row for each section and subsection, once, in order.
 use mathlib.Core.Bool.{Bool, true, false}
 use mathlib.Core.List.{List, [], _∷_, _++_, map}
-use Prim.Native.Nat.{ℕ, zero, suc, _+_, _*_}
+use Prim.Native.Nat.{ℕ, suc, _+_, _*_}
 use lib.Dec.{leb}
 use lib.ListN.{length, drop}
 use Rattle.format.specs.Parts.{Part, isSubsection, kindNumber, size, span}

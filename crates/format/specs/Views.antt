@@ -1,15 +1,15 @@
 -- Views of single fields, and the walk over the rows. Here an illegal token refuses first, with its own number.
-use mathlib.Core.Bool.{Bool, true, false}
-use mathlib.Core.List.{List, [], _∷_, _++_}
-use mathlib.Core.Option.{Option, none, some}
-use Prim.Native.Nat.{ℕ, zero, suc, _+_}
+use mathlib.Core.Bool.{true, false}
+use mathlib.Core.List.{List, [], _∷_}
+use mathlib.Core.Option.{none, some}
+use Prim.Native.Nat.{ℕ, _+_}
 use lib.Dec.{eqb}
 use lib.ListN.{length, drop, getElem?}
 use Rattle.format.specs.Bytes.{bytesAt}
-use Rattle.format.specs.Layout.{Slot, slots}
+use Rattle.format.specs.Layout.{slots}
 use Rattle.format.specs.Parts.{Part, layout}
-use Rattle.format.specs.Reading.{Outcome, refused, found, reading, partsOf, place}
-use Rattle.format.specs.Table.{Placed, placed, rows}
+use Rattle.format.specs.Reading.{refused, found, reading, partsOf, place}
+use Rattle.format.specs.Table.{placed, rows}
 use Rattle.format.specs.declared.Answer.{Answer}
 use Rattle.format.specs.declared.Answer.the-variants.{Accepted, Refused}
 use Rattle.format.specs.declared.Row.{Row}

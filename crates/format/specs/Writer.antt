@@ -1,13 +1,13 @@
 -- The writer's calls on a lent draft: each comes to a refusal, or to the bytes that the draft then begins with.
-use mathlib.Core.Bool.{Bool, true, false, not, _&&_, _||_}
+use mathlib.Core.Bool.{true, false, _&&_}
 use mathlib.Core.List.{List, [], _∷_, _++_}
-use Prim.Native.Nat.{ℕ, zero, suc, _+_}
+use Prim.Native.Nat.{ℕ, _+_}
 use lib.Dec.{leb}
-use lib.ListN.{length, getD, take, drop}
+use lib.ListN.{length, take, drop}
 use Rattle.format.specs.Bytes.{bigEndian}
 use Rattle.format.specs.Layout.{Fields, fits}
-use Rattle.format.specs.Parts.{Kind, publicKey, rule, transportVariant, transportRule, exportParameters, sourceRule, tokenParameters}
-use Rattle.format.specs.Parts.{name, information, protection, dates, applicationData, layout, Part, size, written, joins}
+use Rattle.format.specs.Parts.{Kind}
+use Rattle.format.specs.Parts.{layout, Part, size, written, joins}
 use Rattle.format.specs.Legal.{knownId}
 use Rattle.format.specs.Rules.{Section}
 use Rattle.format.specs.Reading.{Outcome, refused, found, fault, need, andThen, idOf, stated, reading, partsOf, told}

@@ -15,10 +15,10 @@ use Rattle.format.specs.Table.{Placed, placed}
 use Rattle.format.specs.Views.{stepAt, placeBehind}
 use Rattle.format.specs.declared.Step.{Step}
 use Rattle.format.specs.declared.Step.the-variants.{Record, End, Stopped}
-use Rattle.format.proofs.Tiling.{IsRow}
-use Rattle.format.proofs.Walking.{walkPlace, walk-legal, first-place, step-next, step-at-row, step-at-end, step-refused}
+use Rattle.format.proofs.Walking.{walk-legal, first-place, step-next, step-at-row, step-at-end, step-refused}
 use Rattle.walker.specs.Walking.{stepBehind}
 use Rattle.walker.specs.declared.Walker.{Walker}
+use Rattle.format.specs.Claims.{IsRow, walkPlace}
 
 -- ---- the places that the steps lead to
 

@@ -16,7 +16,8 @@ use Rattle.format.proofs.Tests.{found-inj, followed, then-found}
 use Rattle.format.proofs.Grouping.{stateable}
 use Rattle.format.proofs.Unique as Unique
 use Rattle.format.proofs.Writing as Writing
-use Rattle.format.proofs.Writing.{additions, told-accepted}
+use Rattle.format.proofs.Writing.{told-accepted}
+use Rattle.format.specs.Claims.{additions}
 
 -- A call of the writer: its answer r, and the draft e that it leaves of the draft d, for what it comes to.
 pub record Call (o : Outcome (List ℕ)) (d : List ℕ) (r : Answer) (e : List ℕ) : Type 0 where

@@ -1,0 +1,71 @@
+-- What the theorems of proofs/Main speak of beyond the definitions of the format.
+use mathlib.Core.Path.{_≡_}
+use mathlib.Core.Bool.{true, false}
+use mathlib.Core.List.{List, [], _∷_, _++_}
+use mathlib.Core.Option.{some}
+use Prim.Native.Nat.{ℕ, zero, suc, _+_, _/_, _%_}
+use lib.ListN.{length, drop, set, getElem?}
+use Rattle.format.specs.Layout.{Slot, slots}
+use Rattle.format.specs.Parts.{Part, isSubsection, layout, size, writeParts}
+use Rattle.format.specs.Rules.{Section, frontSubs}
+use Rattle.format.specs.Legal.{Legal}
+use Rattle.format.specs.Reading.{Outcome, found, andThen, partsOf}
+use Rattle.format.specs.Table.{Placed, placed}
+use Rattle.format.specs.Views.{view, stepAt}
+use Rattle.format.specs.Views as Views
+use Rattle.format.specs.Writer.{draftAfter, addition}
+use Rattle.format.specs.declared.Row.{Row}
+use Rattle.format.specs.declared.Step.the-variants.{Record, End, Stopped}
+
+-- ---- rows
+
+-- Row number k of the token is x.
+abbrev pub IsRow : (bs : List ℕ) → Legal bs → ℕ → Placed → Type 0
+IsRow bs l k x = getElem? (placed 8 0 0 (l .parts)) k ≡ some x
+
+-- The rows from place `at` on lie one behind another, each as long as its part without its subsections, and end at e.
+abbrev pub Tiles : ℕ → List Placed → ℕ → Type 0
+Tiles at [] e = at ≡ e
+Tiles at (x ∷ xs) e = (x .row .offset ≡ at) × Tiles (at + size (x .part)) xs e
+
+-- The subsections of a part, the parts behind it given: those in front of the next section, and none for a subsection.
+abbrev pub subsOf : Part → List Part → List Part
+subsOf p ps = elim (isSubsection (p .kind)) [ true ↦ [] | false ↦ frontSubs ps ]
+
+-- ---- the views of a row
+
+-- The slots of a row in the token, its offset the first.
+abbrev pub slotsOf : List ℕ → Placed → List Slot
+slotsOf bs x = slots [] (layout (x .part .kind)) (drop (x .row .offset) bs) 0
+
+-- The views of a row's fields from number j on, n of them, laid end to end.
+abbrev pub viewsFrom : List ℕ → ℕ → ℕ → ℕ → List ℕ
+viewsFrom bs k j zero = []
+viewsFrom bs k j (suc n) = view bs k j ++ viewsFrom bs k (suc j) n
+
+-- ---- the walk
+
+-- The records from a place on, following each one's next place, in d turns at most.
+abbrev pub walk : ℕ → List ℕ → ℕ → List Row
+walk zero bs at = []
+walk (suc d) bs at = elim (stepAt bs at) [ Record r next ↦ r ∷ walk d bs next | End ↦ [] | Stopped n p ↦ [] ]
+
+-- The place that d steps lead to.
+abbrev pub walkPlace : ℕ → List ℕ → ℕ → ℕ
+walkPlace zero bs at = at
+walkPlace (suc d) bs at = walkPlace d bs (Views.placeBehind at (stepAt bs at))
+
+-- ---- the writer
+
+-- The parts added one after another to a draft; what is found is the draft as it then is.
+unfoldable pub additions : List Part → List ℕ → Outcome (List ℕ)
+additions [] d = found d
+additions (p ∷ ps) d = andThen (addition (p .kind) (p .fields) d) (λ bs. additions ps (draftAfter (found bs) d))
+
+-- A new length n in the two bytes behind place at + 2.
+abbrev pub restate : ℕ → ℕ → List ℕ → List ℕ
+restate at n bs = set (set bs (at + 2) (n / 256 % 256)) (at + 3) (n % 256)
+
+-- The place of the section behind these.
+abbrev pub placeBehind : List Section → ℕ
+placeBehind ss = 8 + length (writeParts (partsOf ss))
