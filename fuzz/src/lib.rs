@@ -36,10 +36,13 @@ pub unsafe fn give_back(changed: &[u8], bytes: *mut u8, most: usize) -> usize {
     length
 }
 
-/// libFuzzer's own change of some bytes.
+/// libFuzzer's own change of some bytes; it takes no buffer without room.
 pub fn changed(bytes: &[u8], most: usize) -> Vec<u8> {
     let mut buffer = bytes.to_vec();
     buffer.resize(most.max(bytes.len()), 0);
+    if buffer.is_empty() {
+        return buffer;
+    }
     // SAFETY: the buffer has room for as many bytes as it is said to have.
     let length = unsafe { LLVMFuzzerMutate(buffer.as_mut_ptr(), bytes.len(), buffer.len()) };
     buffer.truncate(length);

@@ -1,4 +1,4 @@
-//! Every one of something: bytes, pairs of bytes, lengths, days. The library
+//! Every value of bytes and of pairs of bytes, every length. The library
 //! beside the second reader and writer.
 
 mod common;
@@ -69,6 +69,8 @@ fn every_byte_of(token: &[u8]) {
     }
     println!("{} bytes: read {:?}", token.len(), read.numbers);
     println!("{} bytes: written {:?}", token.len(), written.numbers);
+    read.assert_reached([0, 2, 3, 4, 5, 6, 7, 8].into_iter(), 100);
+    written.assert_reached([0, 2, 3, 4, 5, 6, 7, 8].into_iter(), 100);
 }
 
 #[test]
@@ -188,6 +190,7 @@ fn every_length_cut_or_extended() {
         every_length_of(&sample(name), &mut tally);
     }
     println!("lengths: {:?}", tally.numbers);
+    tally.assert_reached([0, 1, 4, 6, 7, 8, 20].into_iter(), 20);
 }
 
 /// T with application data: a legal token of every length from 86 to 3,500.

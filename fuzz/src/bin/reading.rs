@@ -8,7 +8,7 @@ use trusted_block_tests::kinds::is_section;
 use trusted_block_tests::parts::written;
 use trusted_block_tests::random::Random;
 use trusted_block_tests::reader::{number, read};
-use trusted_block_tests::views::taken_apart;
+use trusted_block_tests::views::{fields_of, taken_apart};
 
 /// How much longer a part may become.
 const LONGER: usize = 80;
@@ -38,7 +38,8 @@ pub unsafe extern "C" fn LLVMFuzzerCustomMutator(
     let token = input(bytes, length);
     let other = match random.below(8) {
         0 => other_parts(&mut random, token),
-        1..=3 => one_part_changed(&mut random, token),
+        1 | 2 => one_part_changed(&mut random, token),
+        3 | 4 => one_field_changed(&mut random, token),
         _ => None,
     };
     let mut other = other.unwrap_or_else(|| changed(token, most));
@@ -71,6 +72,25 @@ fn one_part_changed(random: &mut Random, token: &[u8]) -> Option<Vec<u8>> {
         other[place..place + 2].copy_from_slice(&(section as u16).to_be_bytes());
     } else if random.coin() && part.len() >= 4 {
         other[start + 2..start + 4].copy_from_slice(&(part.len() as u16).to_be_bytes());
+    }
+    Some(other)
+}
+
+/// A legal token with other bytes in one field.
+fn one_field_changed(random: &mut Random, token: &[u8]) -> Option<Vec<u8>> {
+    let rows = read(token).ok()?;
+    let row = rows[random.below(rows.len())];
+    let fields = fields_of(token, &row);
+    let index = random.below(fields.len());
+    let before: usize = fields[..index].iter().map(|field| field.len()).sum();
+    let start = row.offset as usize + before;
+    let mut other = token.to_vec();
+    let field = &mut other[start..start + fields[index].len()];
+    for (byte, value) in field
+        .iter_mut()
+        .zip(changed(fields[index], fields[index].len()))
+    {
+        *byte = value;
     }
     Some(other)
 }
