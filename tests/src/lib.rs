@@ -7,6 +7,8 @@ pub mod checks;
 pub mod fast;
 /// Forms of Rule IDs, label templates, dates and public keys.
 pub mod forms;
+/// Any bytes as trials of the library, for the fuzzer.
+pub mod fuzzed;
 /// Generated tokens, legal and damaged, and sequences of writer calls.
 pub mod generate;
 /// Numbers of the kinds, and their least lengths.

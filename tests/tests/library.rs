@@ -3,14 +3,14 @@
 
 mod common;
 
-use common::{answer, count_of_tokens, smallest_token, token_of_all_kinds, Tally};
+use common::{answer, count_of_tokens, smallest_token, Tally};
 use std::ptr::null;
 use trusted_block_tests::generate::damage::{damaged, with_fault};
 use trusted_block_tests::generate::faults::{CONTENT, LENGTHS};
 use trusted_block_tests::generate::legal::{legal, ordinary};
 use trusted_block_tests::library::{self, calls};
 use trusted_block_tests::random::Random;
-use trusted_block_tests::reader::{read, read_answer, Answer, Row};
+use trusted_block_tests::reader::{read, Answer, Row};
 
 /// Numbers of the table that is always large enough.
 const LARGE: usize = 1200;
@@ -208,24 +208,6 @@ fn every_beginning_of_a_token() {
         }
     }
     trial.report("beginnings");
-}
-
-#[test]
-fn every_single_byte_change() {
-    let mut tally = Tally::default();
-    for token in [smallest_token(), token_of_all_kinds()] {
-        let mut changed = token.clone();
-        for place in 0..token.len() {
-            for value in 0..=255 {
-                changed[place] = value;
-                let given = library::read(&changed);
-                assert_eq!(given, read_answer(&changed), "{changed:02X?}");
-                tally.add(given);
-            }
-            changed[place] = token[place];
-        }
-    }
-    println!("one byte changed: {:?}", tally.numbers);
 }
 
 #[test]

@@ -9,7 +9,7 @@ use crate::parts::{written, Part};
 use crate::random::Random;
 
 /// One call of the writer, or a byte of the buffer set outside it.
-#[derive(Clone, Debug)]
+#[derive(Clone, Debug, PartialEq, Eq)]
 pub enum Call {
     Start { id: u8 },
     Add(Part),
@@ -18,7 +18,7 @@ pub enum Call {
 }
 
 /// What the buffer holds at first, and the calls made on it.
-#[derive(Clone, Debug)]
+#[derive(Clone, Debug, PartialEq, Eq)]
 pub struct Sequence {
     pub buffer: Vec<u8>,
     pub calls: Vec<Call>,

@@ -1,0 +1,118 @@
+//! Bytes as a token, by the library and the second reader. Panics where they
+//! differ.
+
+use crate::fast::{fast_fill, fast_read};
+use crate::kinds::LONGEST;
+use crate::library;
+use crate::library_writer;
+use crate::reader::{read, Answer, Row};
+use crate::views::{fields_of, taken_apart};
+
+/// Numbers of the table that is always large enough.
+const LARGE: usize = 1200;
+
+/// What a table holds before a call.
+const UNTOUCHED: u32 = 0xDEAD_BEEF;
+
+/// At most about this many rows are asked for their views.
+const ROWS_VIEWED: usize = 24;
+
+/// Every reading call on these bytes.
+pub fn compare(token: &[u8]) -> Answer {
+    let outcome = read(token);
+    let expected = expected(&outcome, LARGE);
+    assert_eq!(library::read(token), expected, "tb_read");
+    assert_eq!(fast_read(token), expected, "the optimised reader");
+    compare_tables(token, &outcome);
+    match &outcome {
+        Ok(rows) => {
+            compare_views(token, rows);
+            compare_rebuilt(token);
+        }
+        Err(refusal) => compare_refused_views(token, *refusal),
+    }
+    expected
+}
+
+/// What the second reader answers for a table of this length.
+fn expected(outcome: &Result<Vec<Row>, Answer>, length: usize) -> Answer {
+    match outcome {
+        Ok(rows) if 4 * rows.len() > length => Answer::new(23, rows.len()),
+        Ok(rows) => Answer::new(0, rows.len()),
+        Err(refusal) => *refusal,
+    }
+}
+
+/// Tables of no numbers, one too few, exactly enough, and 1,200.
+fn compare_tables(token: &[u8], outcome: &Result<Vec<Row>, Answer>) {
+    let enough = outcome.as_ref().map_or(8, |rows| 4 * rows.len());
+    for length in [0, enough - 1, enough, LARGE] {
+        let expected = expected(outcome, length);
+        let mut wanted = [UNTOUCHED; LARGE + 1];
+        if let (0, Ok(rows)) = (expected.number, outcome) {
+            for (row, place) in rows.iter().zip(wanted.chunks_exact_mut(4)) {
+                place.copy_from_slice(&[row.kind, row.offset, row.length, row.owner]);
+            }
+        }
+        let mut table = [UNTOUCHED; LARGE + 1];
+        let given = library::read_table(token, &mut table[..length]);
+        assert_eq!(given, expected, "tb_read_table, {length} numbers");
+        assert!(table == wanted, "the table of {length} numbers");
+        let mut table = [UNTOUCHED; LARGE + 1];
+        let given = fast_fill(token, &mut table[..length]);
+        assert_eq!(given, expected, "the optimised reader's table");
+    }
+}
+
+/// All fields of the rows, of a long token of some rows, and others that are
+/// not there.
+fn compare_views(token: &[u8], rows: &[Row]) {
+    let no_such = Err(Answer::new(22, 0));
+    let apart = 1 + rows.len() / ROWS_VIEWED;
+    let first = usize::from(token[token.len() - 1]) % apart;
+    for index in (first..rows.len()).step_by(apart) {
+        let number = index as u32;
+        let mut place = rows[index].offset;
+        let fields = fields_of(token, &rows[index]);
+        for (field, bytes) in fields.iter().enumerate() {
+            let view = Ok((place, bytes.len() as u32));
+            let given = library::view(token, number, field as u32);
+            assert_eq!(given, view, "row {index} field {field}");
+            place += bytes.len() as u32;
+        }
+        for field in [fields.len() as u32, 255, u32::MAX] {
+            assert_eq!(library::view(token, number, field), no_such);
+        }
+    }
+    let count = rows.len() as u32;
+    for row in [count, count + 1, 0x1_0000, u32::MAX] {
+        assert_eq!(library::view(token, row, 0), no_such, "row {row}");
+    }
+}
+
+fn compare_refused_views(token: &[u8], refusal: Answer) {
+    for (row, field) in [(0, 0), (1, 3), (300, 0), (u32::MAX, u32::MAX)] {
+        let given = library::view(token, row, field);
+        assert_eq!(given, Err(refusal), "row {row} field {field}");
+    }
+}
+
+/// The library's writer on the parts of a legal token gives its very bytes.
+fn compare_rebuilt(token: &[u8]) {
+    let (id, parts) = taken_apart(token).expect("legal");
+    let mut draft = [0xEE; LONGEST];
+    assert_eq!(
+        library_writer::start(&mut draft, id),
+        Answer::new(0, 8),
+        "tb_start"
+    );
+    for part in &parts {
+        let given = library_writer::add(&mut draft, part);
+        assert_eq!(given.number, 0, "{part:?}");
+    }
+    let finished = Answer::new(0, token.len());
+    assert_eq!(library_writer::finish(&draft), finished, "tb_finish");
+    assert!(draft[..token.len()] == *token, "the token written again");
+    let rest = &draft[token.len()..];
+    assert!(rest.iter().all(|byte| *byte == 0xEE), "bytes behind it");
+}
