@@ -3,14 +3,14 @@ use mathlib.Core.Path.{_≡_, refl, sym, ap, ap₂, _∙_, subst}
 use mathlib.Core.Bool.{Bool, true, false, _&&_, _||_}
 use mathlib.Core.List.{List, [], _∷_, _++_, append-assoc, append-nil}
 use mathlib.Core.Logic.{_⊎_, inl, inr, ⊎-elim}
-use Prim.Native.Nat.{ℕ, _+_, _/_, _%_, _≤_, _<_}
+use Prim.Native.Nat.{ℕ, _+_, _≤_}
 use native.Mathlib.Omega.{arith}
 use lib.Dec.{eqb, leb}
-use lib.ListN.{length, take, drop, set}
+use lib.ListN.{length, take, drop}
 use borrow.Author.Tests.{eqb-true, ne-eqb}
 use Rattle.format.specs.Bytes.{All, Bytes}
 use Rattle.format.specs.Layout.{Fields, fits, write}
-use Rattle.format.specs.Parts.{Kind, sectionId, isSubsection, layout, Part, size, span, written, joins}
+use Rattle.format.specs.Parts.{Kind, sectionId, isSubsection, layout, Part, size, span, joins}
 use Rattle.format.specs.Rules.{external, Section}
 use Rattle.format.specs.Legal.{knownId}
 use Rattle.format.specs.Reading.{Fault, Outcome, refused, found, fault, need, andThen, idOf, stated, reading, partsOf}
@@ -28,6 +28,7 @@ use Rattle.format.proofs.Changes.{restate, placeBehind, section-added, sub-adde
 use Rattle.format.proofs.Additions.{any-draft}
 use Rattle.drafts.specs.Adding.{lastPlace, grown, appended, unfit, sectionAdded, subsectionAdded}
 use Rattle.drafts.proofs.Sections.{id-small, stands-at, place-more}
+use Rattle.drafts.proofs.Outcomes.{need-failed, same-written}
 use Rattle.drafts.proofs.Joining.{section-joins, sub-joins-last, sub-alone}
 
 -- ---- outcomes
@@ -38,11 +39,6 @@ unfolding andThen
 same-then (refused x) f g h = refl
 same-then (found a) f g h = h a refl
 
--- A failed test refuses.
-need-failed : {A : Type 0} (b : Bool) (f : Fault) (rest : Outcome A) → b ≡ false → need b f rest ≡ refused f
-unfolding need
-need-failed b f rest e = rw e
-
 -- The same test, and the same behind it where it passes.
 same-need : {A : Type 0} (b c : Bool) (f : Fault) (x y : Outcome A) → b ≡ c → (b ≡ true → x ≡ y) → need b f x ≡ need c f y
 unfolding need
@@ -51,10 +47,9 @@ same-need true false f x y e h = absurd (let z : _≡_ {A = ℕ} 0 1 = cc in ome
 same-need false true f x y e h = absurd (let z : _≡_ {A = ℕ} 0 1 = cc in omega arith)
 same-need false false f x y e h = refl
 
--- A call that comes to the same outcome has the same answer and leaves the same bytes.
-told-same : {r : Answer} {e : List ℕ} {o q : Outcome (List ℕ)} (d : List ℕ) → q ≡ o → (r ≡ writeAnswer o) × (e ≡ draftAfter o d)
-    → (r ≡ writeAnswer q) × (e ≡ draftAfter q d)
-told-same d w a = (a .0 ∙ ap writeAnswer (sym w), a .1 ∙ ap (λ (x : Outcome (List ℕ)). draftAfter x d) (sym w))
+-- What a call that adds bytes promises: the answer r and the draft e that it leaves of the draft d, and that d holds bytes.
+abbrev pub Added : Answer → List ℕ → List ℕ → Outcome (List ℕ) → Type 0
+Added r e d o = (r ≡ writeAnswer o) × ((e ≡ draftAfter o d) × Bytes d)
 
 -- ---- fields that do not fit
 
@@ -71,7 +66,8 @@ pub unfit-added : {r : Answer} (k : Kind) (fs : Fields) (d : List ℕ) → fits 
     → (r ≡ writeAnswer (addition k fs d)) × (d ≡ draftAfter (addition k fs d) d)
 unfolding addition unfit
 unfit-added k fs d f e =
-    told-same d (same-then (reading false d) _ _ (λ ss q. need-failed (fits [] (layout k) fs) (fault 24 (stated d) 0) _ f)) (e, sym (unfit-kept d))
+    same-written d (sym (same-then (reading false d) _ _ (λ ss q. need-failed (fits [] (layout k) fs) (fault 24 (stated d) 0) _ f))) e
+    (sym (unfit-kept d))
 
 -- ---- the longer draft
 
@@ -130,9 +126,9 @@ section-same k fs d w t s f m l b =
 -- A section whose bytes w are those of its fields, t being the length that they state.
 pub section-made : {r : Answer} {e : List ℕ} (k : Kind) (fs : Fields) (d w : List ℕ) (t : ℕ) → isSubsection k ≡ false
     → fits [] (layout k) fs ≡ true → w ≡ write t (layout k) fs → t ≡ length w
-    → (r ≡ writeAnswer (sectionAdded d w)) × (e ≡ draftAfter (sectionAdded d w) d) × Bytes d
+    → Added r e d (sectionAdded d w)
     → (r ≡ writeAnswer (addition k fs d)) × (e ≡ draftAfter (addition k fs d) d)
-section-made k fs d w t s f m l a = told-same d (section-same k fs d w t s f m l (a .2)) (a .0, a .1)
+section-made k fs d w t s f m l a = same-written d (sym (section-same k fs d w t s f m l (a .1 .1))) (a .0) (a .1 .0)
 
 -- ---- a subsection
 
@@ -236,6 +232,6 @@ sub-same k fs d w t s f m l b =
 -- A subsection whose bytes w are those of its fields, t being the length that they state.
 pub subsection-made : {r : Answer} {e : List ℕ} (k : Kind) (fs : Fields) (d w : List ℕ) (t : ℕ) → isSubsection k ≡ true
     → fits [] (layout k) fs ≡ true → w ≡ write t (layout k) fs → t ≡ length w
-    → (r ≡ writeAnswer (subsectionAdded (sectionId k) d w)) × (e ≡ draftAfter (subsectionAdded (sectionId k) d w) d) × Bytes d
+    → Added r e d (subsectionAdded (sectionId k) d w)
     → (r ≡ writeAnswer (addition k fs d)) × (e ≡ draftAfter (addition k fs d) d)
-subsection-made k fs d w t s f m l a = told-same d (sub-same k fs d w t s f m l (a .2)) (a .0, a .1)
+subsection-made k fs d w t s f m l a = same-written d (sym (sub-same k fs d w t s f m l (a .1 .1))) (a .0) (a .1 .0)

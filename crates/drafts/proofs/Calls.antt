@@ -12,7 +12,6 @@ use borrow.Author.Tests.{leb-true, eq-eqb, ne-eqb}
 use Rattle.format.specs.Rules.{Section}
 use Rattle.format.specs.Reading.{Outcome, fault, andThen, told, idOf, stated, headerChecks, reading, rowCount}
 use Rattle.format.specs.Writer.{writeAnswer, draftAfter}
-use Rattle.format.specs.declared.Answer.{Answer}
 use Rattle.format.specs.declared.Answer.the-variants.{Accepted, Refused}
 use Rattle.format.proofs.Accepted.{allowed}
 use Rattle.format.proofs.Numbers.{number-one}
@@ -102,10 +101,3 @@ subsection-goes {o} i d w r p h b =
     (then-found _ (r .1)
     ∙ need-passed _ _ _ (ap (λ (j : ℕ). eqb (idOf (drop j d)) i) (sym p) ∙ eq-eqb (idOf (drop o d)) i (id-at d o h ∙ b))
     ∙ ap (λ (j : ℕ). appended d j w) (sym p))
-
--- ---- the rest is the appended part's
-
--- The answer and the draft of one outcome are those of another that is the same.
-pub same-written : {a : Answer} {new : List ℕ} {o u : Outcome (List ℕ)} (d : List ℕ) → o ≡ u → a ≡ writeAnswer o → new ≡ draftAfter o d
-    → (a ≡ writeAnswer u) × (new ≡ draftAfter u d)
-same-written d e a b = (a ∙ ap writeAnswer e, b ∙ ap (λ (y : Outcome (List ℕ)). draftAfter y d) e)

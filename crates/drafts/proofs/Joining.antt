@@ -1,8 +1,8 @@
 -- Refusal 25: a part joins the sections before it exactly when it is a section, or the last of them has its id.
-use mathlib.Core.Path.{_≡_, refl, sym, ap, ap₂, _∙_, subst}
-use mathlib.Core.Bool.{Bool, true, false, not, _&&_, _||_}
+use mathlib.Core.Path.{_≡_, refl, sym, ap, ap₂, _∙_}
+use mathlib.Core.Bool.{Bool, true, false, not, _&&_, _||_, and-assoc, and-true}
 use mathlib.Core.List.{List, [], _∷_, _++_}
-use Prim.Native.Nat.{ℕ, _+_, _≤_, _<_}
+use Prim.Native.Nat.{ℕ, _<_}
 use native.Mathlib.Omega.{arith}
 use lib.Dec.{eqb}
 use borrow.Author.Tests.{eqb-true, eqb-false, eq-eqb, ne-eqb}
@@ -17,14 +17,6 @@ use Rattle.format.proofs.Sound.{GoodSub, GoodSection}
 abbrev lastOf : ℕ → List Part → ℕ
 lastOf o [] = o
 lastOf o (p ∷ ps) = lastOf (sectionId (p .kind)) ps
-
-and-assoc : (a b c : Bool) → ((a && b) && c) ≡ (a && (b && c))
-and-assoc true b c = refl
-and-assoc false b c = refl
-
-and-true : (a : Bool) → (a && true) ≡ a
-and-true true = refl
-and-true false = refl
 
 -- One part more joins exactly when it joins the last.
 joins-more : (o : ℕ) (ps : List Part) (p : Part)

@@ -5,3 +5,5 @@ pub mod Additions
 pub mod Longer
 pub mod Outcomes
 pub mod Calls
+pub mod Fields
+pub mod StoredParts

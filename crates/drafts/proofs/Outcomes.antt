@@ -1,6 +1,6 @@
 -- What an outcome says of the answer and of the lent draft. Assumes nothing.
 use mathlib.Core.Path.{_≡_, refl, sym, ap, ap₂, _∙_}
-use mathlib.Core.Bool.{Bool, true, false, _&&_}
+use mathlib.Core.Bool.{Bool, false, _&&_, and-false}
 use mathlib.Core.List.{List, _++_}
 use Prim.Native.Nat.{ℕ, _+_, _<_, _≤_}
 use native.Mathlib.Omega.{arith}
@@ -63,6 +63,11 @@ pub found-written : {n : ℕ} (o : Outcome (List ℕ)) (d bs : List ℕ) → o �
 unfolding told
 found-written o d bs e l = (ap Accepted l ∙ sym (ap writeAnswer e), sym (ap (λ (y : Outcome (List ℕ)). draftAfter y d) e))
 
+-- The answer and the draft of one outcome are those of another that is the same.
+pub same-written : {a : Answer} {new : List ℕ} {o u : Outcome (List ℕ)} (d : List ℕ) → o ≡ u → a ≡ writeAnswer o → new ≡ draftAfter o d
+    → (a ≡ writeAnswer u) × (new ≡ draftAfter u d)
+same-written d e a b = (a ∙ ap writeAnswer e, b ∙ ap (λ (y : Outcome (List ℕ)). draftAfter y d) e)
+
 -- ---- the draft with a part behind it
 
 -- The test for room.
@@ -87,11 +92,8 @@ pub over-lent : {n : ℕ} (d : List ℕ) (o : ℕ) (w : List ℕ) → n ≡ stat
     → (Refused 23 n ≡ writeAnswer (appended d o w)) × (d ≡ draftAfter (appended d o w) d)
 over-lent d o w e h =
     no-room d o w e
-    (ap (λ (b : Bool). leb (stated d + length w) 3500 && b) (lt-leb (stated d + length w) (length d) h) ∙ last (leb (stated d + length w) 3500))
-  where
-    last : (b : Bool) → (b && false) ≡ false
-    last true = refl
-    last false = refl
+    (ap (λ (b : Bool). leb (stated d + length w) 3500 && b) (lt-leb (stated d + length w) (length d) h)
+    ∙ and-false (leb (stated d + length w) 3500))
 
 -- Where there is room, the longer draft is read.
 has-room : (d : List ℕ) (o : ℕ) (w : List ℕ) → stated d + length w ≤ 3500 → stated d + length w ≤ length d

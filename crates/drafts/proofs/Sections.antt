@@ -1,16 +1,16 @@
 -- Where the sections of a draft stand, and what they state there.
-use mathlib.Core.Path.{_≡_, refl, sym, ap, ap₂, _∙_, subst}
+use mathlib.Core.Path.{_≡_, refl, sym, ap, _∙_}
 use mathlib.Core.Bool.{Bool, true, false}
 use mathlib.Core.List.{List, [], _∷_, _++_, append-assoc, append-nil}
-use Prim.Native.Nat.{ℕ, zero, suc, _+_, _%_, _^_, _≤_, _<_}
+use Prim.Native.Nat.{ℕ, _+_, _≤_, _<_}
 use native.Mathlib.Omega.{arith}
 use lib.Dec.{ltb}
-use lib.ListN.{length, take, drop, length-append}
+use lib.ListN.{length, drop, length-append}
 use lib.Seq.{drop-at}
 use borrow.Author.Tests.{ltb-true}
 use Rattle.format.specs.Bytes.{All, Bytes, number, bytesAt}
-use Rattle.format.specs.Layout.{Item, Fields, fits, write}
-use Rattle.format.specs.Parts.{Kind, sectionId, tag, body, isSubsection, frame, layout, header, Part, size, span, writeParts, written}
+use Rattle.format.specs.Layout.{Item, Fields, write}
+use Rattle.format.specs.Parts.{Kind, sectionId, tag, body, isSubsection, frame, layout, header, Part, span, writeParts}
 use Rattle.format.specs.Rules.{external, Section}
 use Rattle.format.specs.Reading.{found, idOf, stated, reading, partsOf}
 use Rattle.format.proofs.Finding.{every-kind}
@@ -19,8 +19,8 @@ use Rattle.format.proofs.Grouping.{Grouped, all-split, parts-then-section, span
 use Rattle.format.proofs.Sound.{GoodSection}
 use Rattle.format.proofs.Complete.{part-stated}
 use Rattle.format.proofs.Flat.{grouped}
-use Rattle.format.proofs.Accepted.{ReadAs, reading-sound}
-use Rattle.format.proofs.Writing.{Draft, draft-header}
+use Rattle.format.proofs.Accepted.{reading-sound}
+use Rattle.format.proofs.Writing.{draft-header}
 use Rattle.format.proofs.Changes.{placeBehind}
 use Rattle.format.proofs.Additions.{any-draft}
 

@@ -1,22 +1,23 @@
 -- The loop over the sections of a draft, up to its last one.
-use mathlib.Core.Path.{_≡_, refl, sym, ap, _∙_, subst}
+use mathlib.Core.Path.{_≡_, refl, sym, ap, _∙_}
 use mathlib.Core.Bool.{false}
 use mathlib.Core.List.{List, [], _∷_, _++_, append-assoc, append-nil}
 use Prim.Native.Nat.{ℕ, _+_, _≤_, _<_}
 use native.Mathlib.Omega.{arith}
-use lib.ListN.{length, drop}
+use lib.ListN.{drop}
 use Rattle.format.specs.Bytes.{Bytes}
 use Rattle.format.specs.Rules.{external, Section}
 use Rattle.format.specs.Parts.{span}
 use Rattle.format.specs.Reading.{found, idOf, stated, reading}
-use Rattle.format.proofs.Grouping.{Grouped, all-split}
+use Rattle.format.proofs.Grouping.{all-split}
 use Rattle.format.proofs.Sound.{GoodSection}
 use Rattle.format.proofs.Flat.{grouped}
 use Rattle.format.proofs.Tests.{found-inj}
 use Rattle.format.proofs.Accepted.{reading-sound}
 use Rattle.format.proofs.Changes.{placeBehind}
 use Rattle.drafts.specs.Adding.{Standing, Reads, lastPlace}
-use Rattle.drafts.proofs.Sections.{place-more, StandsAt, stands-at, sections-end}
+use Rattle.drafts.proofs.Calls.{header-stands}
+use Rattle.drafts.proofs.Sections.{place-more, stands-at, sections-end}
 
 -- The sections up to p are passed, the last of them standing at `last`; what is left begins at p.
 pub record Passed (d : List ℕ) (last p : ℕ) : Type 0 where
@@ -27,17 +28,10 @@ pub record Passed (d : List ℕ) (last p : ℕ) : Type 0 where
   pub same : lastPlace last p left ≡ lastPlace 0 8 (done ++ left)
   pub standing : Standing d last
 
--- The header stands in a draft that reads.
-header-stands : (d : List ℕ) (ss : List Section) → Bytes d → reading false d ≡ found ss → Standing d 0
-header-stands d ss b e =
-    let r = reading-sound false d ss b e in
-    let h = r .eight in
-    record { least = h; most = r .most; there = r .ends; head = omega arith; ends = omega arith }
-
 -- At first nothing is passed.
-pub passed-none : (d : List ℕ) → Bytes d → Reads d → Passed d 0 8
-passed-none d b r =
-    record { done = []; left = r .0; read = r .1; place = refl; same = refl; standing = header-stands d (r .0) b (r .1) }
+pub passed-none : (d : List ℕ) → Reads d → Passed d 0 8
+passed-none d r =
+    record { done = []; left = r .0; read = r .1; place = refl; same = refl; standing = header-stands d r }
 
 -- Before the end a section is left, and it states its length.
 pub passed-one : (d : List ℕ) (last p : ℕ) → Bytes d → Passed d last p → p < stated d

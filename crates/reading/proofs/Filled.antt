@@ -1,22 +1,21 @@
 -- The lent table: the answer, and what the table then holds.
-use mathlib.Core.Path.{_≡_, refl, sym, ap, ap₂, _∙_, subst}
+use mathlib.Core.Path.{_≡_, refl, sym, ap, _∙_}
 use mathlib.Core.Bool.{Bool, true, false}
 use mathlib.Core.List.{List, [], _∷_, _++_, map}
-use Prim.Native.Nat.{ℕ, zero, suc, _+_, _*_, _/_, _<_, _≤_}
+use Prim.Native.Nat.{ℕ, suc, _+_, _*_, _<_, _≤_}
 use native.Mathlib.Omega.{arith}
 use lib.Dec.{leb}
 use lib.ListN.{length, getD, drop}
-use lib.Seq.{sets, sets-eq}
+use lib.Seq.{sets-eq}
 use borrow.Author.Tests.{le-leb, lt-leb}
 use Rattle.format.specs.Bytes.{Bytes}
 use Rattle.format.specs.Parts.{Part}
 use Rattle.format.specs.Rules.{Section}
 use Rattle.format.specs.Reading.{Outcome, refused, found, fault, need, andThen, told, reading, partsOf, rowCount, answer}
-use Rattle.format.specs.Table.{Placed, placed, rows, tableOf, columns, tableReading, tableAnswer, tableAfter}
-use Rattle.format.specs.declared.Answer.{Answer}
+use Rattle.format.specs.Table.{placed, rows, tableOf, columns, tableReading, tableAnswer, tableAfter}
 use Rattle.format.specs.declared.Answer.the-variants.{Accepted, Refused}
 use Rattle.format.specs.declared.Row.{Row}
-use Rattle.table.specs.Filling.{Fillable, filled}
+use Rattle.table.specs.Filling.{filled}
 
 -- Numbers below 256 are bytes.
 pub bytes-of : (s : List ℕ) → ((k : ℕ) → getD s k 0 < 256) → Bytes s

@@ -1,22 +1,20 @@
 -- The header's tests, and the answer behind them.
 use mathlib.Core.Path.{_≡_, refl, sym, ap, ap₂, _∙_, subst}
-use mathlib.Core.Bool.{Bool, true, false, _&&_, _||_}
-use mathlib.Core.List.{List, [], _∷_}
-use Prim.Native.Nat.{ℕ, zero, suc, _+_, _<_, _≤_}
+use mathlib.Core.Bool.{Bool, true, false, _&&_, _||_, or-true, and-false}
+use mathlib.Core.List.{List, []}
+use Prim.Native.Nat.{ℕ, suc, _<_, _≤_}
 use native.Mathlib.Omega.{arith}
 use lib.Dec.{eqb, leb}
 use lib.ListN.{length, getD, take, drop, length-drop}
 use lib.Seq.{take-all, length-take-le}
 use borrow.Author.Tests.{eq-eqb, ne-eqb, eqb-true, eqb-false, le-leb, lt-leb, leb-true}
-use Rattle.format.specs.Bytes.{Bytes, number, bytesAt}
-use Rattle.format.specs.Rules.{Section, external}
+use Rattle.format.specs.Rules.{external}
 use Rattle.format.specs.Legal.{knownId}
-use Rattle.format.specs.Reading.{Outcome, tested, told, idOf, stated, lengthAllowed, headerChecks, sections, rowCount, reading, answer}
-use Rattle.format.specs.declared.Answer.{Answer}
-use Rattle.format.specs.declared.Answer.the-variants.{Accepted, Refused}
+use Rattle.format.specs.Reading.{tested, told, idOf, stated, lengthAllowed, headerChecks, sections, rowCount, reading, answer}
+use Rattle.format.specs.declared.Answer.the-variants.{Refused}
 use Rattle.format.proofs.Finding.{and-split}
 use Rattle.format.proofs.Tests.{Hold}
-use Rattle.format.proofs.Turns.{sectionsFrom, sections-from}
+use Rattle.format.proofs.Turns.{sections-from}
 use Rattle.sections.specs.Refusals.{firstRefusal}
 use Rattle.sections.proofs.Heads.{all-hold}
 use Rattle.sections.proofs.Laws.{byte-number, first-not}
@@ -29,10 +27,6 @@ use Rattle.reading.specs.Progress.{sectionsAnswer}
 pub id-known : (i : ℕ) → 30 ≤ i → i < 32 → true ≡ knownId i
 id-known i lo hi = sym (go (eqb i 0x1E) refl)
   where
-    or-true : (b : Bool) → (b || true) ≡ true
-    or-true true = refl
-    or-true false = refl
-
     go : (b : Bool) → eqb i 0x1E ≡ b → (eqb i 0x1E || eqb i 0x1F) ≡ true
     go true e = ap (λ (b : Bool). b || eqb i 0x1F) e
     go false e =
@@ -60,8 +54,7 @@ id-first s h = sym (byte-number s 0 h)
 
 -- The second of two tests fails.
 not-right : (a : Bool) {b : Bool} → b ≡ false → (a && b) ≡ false
-not-right true e = e
-not-right false e = refl
+not-right a e = ap (λ (x : Bool). a && x) e ∙ and-false a
 
 -- A length above 3500 is stated of no token and no draft.
 pub length-above : {n : ℕ} (full : Bool) (s : List ℕ) → n ≡ stated s → 3500 < n → false ≡ lengthAllowed full s

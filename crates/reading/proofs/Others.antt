@@ -1,9 +1,9 @@
 -- A section that is no rule: its answer from the number of its refusal, and the ids of no section.
-use mathlib.Core.Path.{_≡_, refl, sym, ap, ap₂, _∙_, subst}
-use mathlib.Core.Bool.{Bool, true, false, not, _||_}
-use mathlib.Core.List.{List, [], _∷_}
+use mathlib.Core.Path.{_≡_, refl, sym, ap, _∙_}
+use mathlib.Core.Bool.{Bool, true, false, _||_}
+use mathlib.Core.List.{List}
 use mathlib.Core.Option.{Option, none, some}
-use Prim.Native.Nat.{ℕ, zero, suc, _+_, _<_, _≤_}
+use Prim.Native.Nat.{ℕ, zero, suc, _+_, _≤_}
 use native.Mathlib.Omega.{arith}
 use lib.Dec.{eqb}
 use lib.ListN.{length, getD, drop}
@@ -11,13 +11,11 @@ use borrow.Author.Tests.{ne-eqb}
 use Rattle.format.specs.Bytes.{number, bytesAt}
 use Rattle.format.specs.Parts.{Kind, rule, information, isSubsection, sectionId, sameKind, sectionKind}
 use Rattle.format.specs.Rules.{Section}
-use Rattle.format.specs.Reading.{idOf, partIn, kindBefore, ruleBefore, sectionChecks, section, told}
-use Rattle.format.specs.declared.Answer.{Answer}
-use Rattle.format.specs.declared.Answer.the-variants.{Accepted, Refused}
+use Rattle.format.specs.Reading.{partIn, kindBefore, ruleBefore, sectionChecks, section, told}
+use Rattle.format.specs.declared.Answer.the-variants.{Accepted}
 use Rattle.format.proofs.Finding.{every-kind, sectionKind-sound, sectionKind-told}
 use Rattle.sections.specs.Refusals.{firstRefusal, unless, sectionRows}
 use Rattle.sections.proofs.Laws.{byte-number}
-use Rattle.sections.proofs.Subs.{at-here}
 use Rattle.sections.proofs.Heads.{section-stops, plain-found}
 
 -- The kind of the section at p, from its first byte.

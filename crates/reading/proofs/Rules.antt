@@ -2,7 +2,7 @@
 use mathlib.Core.Path.{_≡_, refl, sym, ap, _∙_, subst}
 use mathlib.Core.Bool.{Bool, true, false}
 use mathlib.Core.List.{List, [], _∷_, _++_}
-use Prim.Native.Nat.{ℕ, _+_, _*_, _<_, _≤_}
+use Prim.Native.Nat.{ℕ, _+_, _<_, _≤_}
 use native.Mathlib.Omega.{arith}
 use lib.ListN.{length, getD, drop}
 use lib.Dec.{eqb}
@@ -11,12 +11,11 @@ use Rattle.format.specs.Bytes.{number, bytesAt}
 use Rattle.sections.proofs.Laws.{byte-number}
 use Rattle.format.specs.Parts.{rule, sameKind, Part}
 use Rattle.format.specs.Rules.{Section}
-use Rattle.format.specs.Reading.{stated, section, told}
+use Rattle.format.specs.Reading.{stated, section}
 use Rattle.format.specs.declared.Answer.{Answer}
 use Rattle.format.specs.declared.Answer.the-variants.{Accepted, Refused}
-use Rattle.sections.specs.Refusals.{sectionRows}
 use Rattle.rules.specs.Ids.{Held, RuleAnswered}
-use Rattle.reading.specs.Progress.{SectionsRead, Running, sectionsAnswer}
+use Rattle.reading.specs.Progress.{Running, sectionsAnswer}
 use Rattle.reading.proofs.Steps.{Found, found-here, refused-here, short-here, read-more, marked-rule}
 use Rattle.reading.proofs.Notes.{rule-here}
 

@@ -1,11 +1,10 @@
 -- The loop over the sections, turn by turn.
-use mathlib.Core.Path.{_≡_, refl, sym, ap, _∙_, subst}
-use mathlib.Core.Bool.{Bool, true, false}
+use mathlib.Core.Path.{_≡_, sym, _∙_, subst}
+use mathlib.Core.Bool.{Bool, true}
 use mathlib.Core.List.{List, [], _∷_, _++_}
-use Prim.Native.Nat.{ℕ, _+_, _*_, _<_, _≤_}
+use Prim.Native.Nat.{ℕ, _+_, _<_}
 use native.Mathlib.Omega.{arith}
 use lib.ListN.{length, getD, set, drop, length-set}
-use Rattle.format.specs.Bytes.{number, bytesAt}
 use Rattle.format.specs.Parts.{sectionId}
 use Rattle.format.specs.Rules.{Section}
 use Rattle.format.specs.Reading.{idOf, stated, section, told}

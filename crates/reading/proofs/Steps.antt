@@ -1,24 +1,21 @@
 -- One section more: what the loops over sections know behind it.
-use mathlib.Core.Path.{_≡_, refl, sym, ap, ap₂, _∙_, subst}
-use mathlib.Core.Bool.{Bool, true, false, not, _&&_, _||_}
+use mathlib.Core.Path.{_≡_, refl, sym, ap, _∙_, subst}
+use mathlib.Core.Bool.{Bool, true, false, not, _||_, or-true, or-false, or-assoc}
 use mathlib.Core.List.{List, [], _∷_, _++_}
 use mathlib.Core.Option.{Option, none, some}
 use Prim.Native.Nat.{ℕ, zero, suc, _+_, _-_, _*_, _<_, _≤_}
-use native.Mathlib.Nat.{add-zero}
 use native.Mathlib.Omega.{arith}
-use lib.Dec.{eqb, leb, ltb}
+use lib.Dec.{leb, ltb}
 use lib.ListN.{length, getD, set, drop, length-append, length-drop}
 use lib.Seq.{drop-drop, getD-set-same, getD-set-other}
-use borrow.Author.Tests.{leb-true, le-leb, lt-leb, ltb-true, eqb-true, eqb-false, ne-eqb, not-true}
-use Rattle.format.specs.Bytes.{number, bytesAt}
+use borrow.Author.Tests.{leb-true, le-leb, lt-leb, ltb-true}
 use Rattle.format.specs.Layout.{least}
-use Rattle.format.specs.Parts.{Kind, rule, information, tokenParameters, isSubsection, sectionId, sameKind, sectionKind, layout, Part}
+use Rattle.format.specs.Parts.{Kind, rule, information, isSubsection, sectionId, sameKind, sectionKind, layout, Part}
 use Rattle.format.specs.Rules.{Section, maskCovers, hasRequired}
-use Rattle.format.specs.Reading.{Fault, fault, Outcome, refused, found, need, andThen, tested, idOf, stated, partIn, madeLength, subsection, subsections, kindBefore, ruleBefore}
-use Rattle.format.specs.Reading.{sectionChecks, closed, sectionRest, section, rowCount, partsOf, told, place}
-use Rattle.format.specs.declared.Answer.{Answer}
+use Rattle.format.specs.Reading.{fault, Outcome, refused, found, need, andThen, tested, idOf, stated, partIn, madeLength, subsection, subsections, kindBefore, ruleBefore}
+use Rattle.format.specs.Reading.{sectionChecks, closed, sectionRest, section, rowCount, partsOf, told}
 use Rattle.format.specs.declared.Answer.the-variants.{Accepted, Refused}
-use Rattle.format.proofs.Finding.{and-split, every-kind, sameKind-eq, sectionKind-sound, sectionKind-told}
+use Rattle.format.proofs.Finding.{and-split, every-kind, sameKind-eq, sectionKind-told}
 use Rattle.format.proofs.Sound.{kinds-differ}
 use Rattle.format.specs.Forms.{ruleIdForm}
 use Rattle.format.proofs.Tests.{Hold, refused-not, found-inj, needed, followed, then-found, tests-passed}
@@ -102,15 +99,7 @@ ahead-more s q (d ∷ cs) p c a w = (a .0, ahead-more s (q + stated (drop q s)) 
 
 pub kind-more : (k : Kind) (before : List Section) (c : Section) → kindBefore k (before ++ c ∷ []) ≡ (kindBefore k before || sameKind k (c .head .kind))
 kind-more k [] c = or-false (sameKind k (c .head .kind))
-  where
-    or-false : (b : Bool) → (b || false) ≡ b
-    or-false true = refl
-    or-false false = refl
-kind-more k (d ∷ ds) c = ap (λ (b : Bool). sameKind k (d .head .kind) || b) (kind-more k ds c) ∙ or-assoc (sameKind k (d .head .kind)) _ _
-  where
-    or-assoc : (a b e : Bool) → (a || (b || e)) ≡ ((a || b) || e)
-    or-assoc true b e = refl
-    or-assoc false b e = refl
+kind-more k (d ∷ ds) c = ap (λ (b : Bool). sameKind k (d .head .kind) || b) (kind-more k ds c) ∙ sym (or-assoc (sameKind k (d .head .kind)) _ _)
 
 pub rows-more : (before : List Section) (c : Section) → rowCount (before ++ c ∷ []) ≡ rowCount before + sectionRows c
 rows-more [] c = let a = length-append (c .subs) [] in omega arith
@@ -138,17 +127,6 @@ pub marked-more : (seen : List Bool) (before : List Section) (c : Section) → l
     → Marked seen before → Marked (set seen (sectionId (c .head .kind)) true) (before ++ c ∷ [])
 marked-more seen before c l f m k a r = kind-more k before c ∙ go (sameKind k (c .head .kind)) refl
   where
-    i : ℕ
-    i = sectionId (c .head .kind)
-
-    or-true : (b : Bool) → (b || true) ≡ true
-    or-true true = refl
-    or-true false = refl
-
-    or-false : (b : Bool) → (b || false) ≡ b
-    or-false true = refl
-    or-false false = refl
-
     small : sectionId (c .head .kind) < length seen
     small = let z = id-small (c .head .kind) in omega arith
 
@@ -170,10 +148,6 @@ pub marked-rule : (seen : List Bool) (before : List Section) (c : Section) → s
 marked-rule seen before c e m k a r =
     let q : sameKind k (c .head .kind) ≡ false = subst (λ (y : Kind). sameKind k y ≡ false) (sameKind-eq rule (c .head .kind) e) (kinds-differ rule k r) in
     kind-more k before c ∙ ap (λ (b : Bool). kindBefore k before || b) q ∙ or-false (kindBefore k before) ∙ m k a r
-  where
-    or-false : (b : Bool) → (b || false) ≡ b
-    or-false true = refl
-    or-false false = refl
 
 -- ---- answers
 

@@ -1,6 +1,5 @@
 // Internal: the header and the sections, of a token (full) or of a draft.
 ghost use mathlib.Core.Path.{_≡_};
-ghost use mathlib.Core.Bool.{Bool};
 ghost use Prim.Native.Nat.{_+_, _≤_};
 ghost use lib.ListN.{length};
 ghost use Rattle.reading.specs.Progress.{sectionsAnswer};

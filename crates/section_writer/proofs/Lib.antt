@@ -1,1 +1,1 @@
-pub mod SectionBytes
+pub mod Overlong

@@ -1,2 +1,1 @@
-pub mod SubsectionBytes
 pub mod NamedRules

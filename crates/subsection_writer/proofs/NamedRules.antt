@@ -8,31 +8,32 @@ use Rattle.format.specs.Layout.{Item, fits, write}
 use Rattle.format.specs.Parts.{Kind, transportRule, frame, body}
 use Rattle.format.specs.Writer.{writeAnswer, draftAfter, addition}
 use Rattle.format.specs.declared.Answer.{Answer}
-use Rattle.drafts.specs.Adding.{unfit}
+use Rattle.drafts.specs.Adding.{unfit, subsectionAdded}
 use Rattle.storing.specs.Storing.{Stored}
 use Rattle.storing.proofs.Stores.{stored-as}
 use Rattle.subsection_writer.specs.References.{NamesRule}
-use Rattle.drafts.proofs.Additions.{unfit-added}
-use Rattle.subsection_writer.proofs.SubsectionBytes.{fixed-fits, fixed-other, Added, subsection-stored}
+use Rattle.drafts.proofs.Additions.{Added, unfit-added}
+use Rattle.drafts.proofs.Fields.{fixed-fits, fixed-unfit}
+use Rattle.drafts.proofs.StoredParts.{subsection-stored}
 
 -- a Rule ID that is not of 8 bytes
 rule-unfit : {r : Answer} (k : Kind) (g : ℕ) (x d : List ℕ) → NamesRule k g → (length x ≡ 8 → ⊥) → r ≡ writeAnswer (unfit d)
     → (r ≡ writeAnswer (addition k (x ∷ []) d)) × (d ≡ draftAfter (addition k (x ∷ []) d) d)
 rule-unfit k g x d y h e =
-    unfit-added k (x ∷ []) d (ap (λ (l : List Item). fits [] l (x ∷ [])) (y .fields) ∙ fixed-other (length x) 8 true h) e
+    unfit-added k (x ∷ []) d (ap (λ (l : List Item). fits [] l (x ∷ [])) (y .fields) ∙ fixed-unfit (length x) 8 true h) e
 
 -- the bytes of the subsection, stored and added
-rule-stored : {r : Answer} {e : List ℕ} (k : Kind) (g : ℕ) (x d old new : List ℕ) (n : ℕ) → NamesRule k g → length x ≡ 8
+rule-stored : {r : Answer} {e old new : List ℕ} {n : ℕ} (k : Kind) (g : ℕ) (x d : List ℕ) → NamesRule k g → length x ≡ 8
     → Stored old 0 (write 14 (frame true 0x12 g ++ body transportRule) (x ∷ [])) new n → n ≤ length old → 14 ≡ n
-    → Added r e 0x12 d (take n new)
+    → Added r e d (subsectionAdded 0x12 d (take n new))
     → (r ≡ writeAnswer (addition k (x ∷ []) d)) × (e ≡ draftAfter (addition k (x ∷ []) d) d)
-rule-stored {r} {e} k g x d old new n y h s b l a =
-    subsection-stored k (x ∷ []) d old new 14 n (y .subsection)
+rule-stored {r} {e} {old} {new} {n} k g x d y h s b l a =
+    subsection-stored k (x ∷ []) d 14 (y .subsection)
     (ap (λ (l : List Item). fits [] l (x ∷ [])) (y .fields) ∙ fixed-fits (length x) 8 h refl)
     (stored-as (ap (λ (l : List Item). write 14 l (x ∷ [])) (sym (y .fields))) s)
     b
     l
-    (subst (λ (i : ℕ). Added r e i d (take n new)) (sym (y .section)) a)
+    (subst (λ (i : ℕ). Added r e d (subsectionAdded i d (take n new))) (sym (y .section)) a)
 
 -- ---- of each of the two kinds
 
@@ -41,10 +42,9 @@ pub rules-unfit : {r : Answer} (g : ℕ) (x d : List ℕ) → (length x ≡ 8 �
     × ((k : Kind) → NamesRule k g → d ≡ draftAfter (addition k (x ∷ []) d) d)
 rules-unfit g x d h e = (λ k y. rule-unfit k g x d y h e .0, λ k y. rule-unfit k g x d y h e .1)
 
-pub rules-stored : {r : Answer} {e : List ℕ} (g : ℕ) (x d old new : List ℕ) (n : ℕ) → length x ≡ 8
+pub rules-stored : {r : Answer} {e old new : List ℕ} {n : ℕ} (g : ℕ) (x d : List ℕ) → length x ≡ 8
     → Stored old 0 (write 14 (frame true 0x12 g ++ body transportRule) (x ∷ [])) new n → n ≤ length old → 14 ≡ n
-    → Added r e 0x12 d (take n new)
+    → Added r e d (subsectionAdded 0x12 d (take n new))
     → ((k : Kind) → NamesRule k g → r ≡ writeAnswer (addition k (x ∷ []) d))
     × ((k : Kind) → NamesRule k g → e ≡ draftAfter (addition k (x ∷ []) d) d)
-rules-stored g x d old new n h s b l a =
-    (λ k y. rule-stored k g x d old new n y h s b l a .0, λ k y. rule-stored k g x d old new n y h s b l a .1)
+rules-stored g x d h s b l a = (λ k y. rule-stored k g x d y h s b l a .0, λ k y. rule-stored k g x d y h s b l a .1)

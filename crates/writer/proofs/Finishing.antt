@@ -6,30 +6,11 @@ use Prim.Native.Nat.{ℕ}
 use native.Mathlib.Omega.{arith}
 use lib.ListN.{take}
 use Rattle.format.specs.Rules.{Section}
-use Rattle.format.specs.Reading.{Outcome, refused, found, andThen, told, stated, headerChecks, reading, rowCount, answer}
+use Rattle.format.specs.Reading.{Outcome, refused, found, andThen, told, stated, reading, rowCount, answer}
 use Rattle.format.specs.Writer.{finish}
 use Rattle.format.specs.declared.Answer.{Answer}
 use Rattle.format.specs.declared.Answer.the-variants.{Accepted, Refused}
-use Rattle.format.proofs.Tests.{tests-passed}
-use Rattle.reading.proofs.Headers.{Lengths, lengths}
-
--- The draft is read without a fault.
-pub record DraftRead (d : List ℕ) : Type 0 where
-  pub sections : List Section
-  pub read : reading false d ≡ found sections
-
-pub accepted-draft : {k : ℕ} (d : List ℕ) → Accepted k ≡ told rowCount (reading false d) → DraftRead d
-unfolding told
-accepted-draft {k} d e = go (reading false d) refl e
-  where
-    go : (o : Outcome (List Section)) → reading false d ≡ o → Accepted k ≡ told rowCount o → DraftRead d
-    go (refused f) q w = absurd (let y : _≡_ {A = ℕ} 0 1 = cc in omega arith)
-    go (found ss) q w = record { sections = ss; read = q }
-
--- Its lengths are then allowed.
-pub draft-lengths : (d : List ℕ) → DraftRead d → Lengths d
-unfolding reading
-draft-lengths d w = lengths false d (tests-passed 0 (headerChecks false d) _ (w .sections) (w .read) .0)
+use Rattle.drafts.specs.Adding.{Reads}
 
 -- A refusal is told as such, whatever would be counted.
 told-refused : {A : Type 0} {m p : ℕ} (f g : A → ℕ) (o : Outcome A) → Refused m p ≡ told f o → Refused m p ≡ told g o
@@ -54,10 +35,10 @@ finish-own {m} {p} d e = go (reading false d) e
     go (found ss) w = absurd (let y : _≡_ {A = ℕ} 0 1 = cc in omega arith)
 
 -- Where it has none, its bytes are read as a token.
-module _ {n : ℕ} (d : List ℕ) (r : DraftRead d) (l : n ≡ stated d) where
+module _ {n : ℕ} (d : List ℕ) (r : Reads d) (l : n ≡ stated d) where
   goes : finish d ≡ told (λ ss. stated d) (reading true (take (stated d) d))
   unfolding finish andThen
-  goes = ap (λ o. told (λ ss. stated d) (andThen o (λ ss. reading true (take (stated d) d)))) (r .read)
+  goes = ap (λ o. told (λ ss. stated d) (andThen o (λ ss. reading true (take (stated d) d)))) (r .1)
 
   as-token : {a : Answer} → a ≡ answer (take n d) → a ≡ told rowCount (reading true (take (stated d) d))
   unfolding answer

@@ -1,14 +1,11 @@
 -- The draft's own fault, else what appending the section gives. Assumes nothing.
 use mathlib.Core.Path.{sym, _∙_}
 use Rattle.reading.proofs.Filled.{bytes-of}
-use Rattle.drafts.proofs.Calls.{reads, header-stands, section-fault, section-goes, same-written}
+use Rattle.drafts.proofs.Calls.{reads, header-stands, section-fault, section-goes}
+use Rattle.drafts.proofs.Outcomes.{same-written}
 use borrow.Author.Needs.{needs}
 use Rattle.drafts.proofs.add_section.Statement.{statement}
 use Rattle.drafts.proofs.add_section.Tie as tie
-use Rattle.drafts.proofs.add_section.Reads as reads
-use Rattle.drafts.proofs.add_section.Lts as lts
-use Rattle.drafts.proofs.growing.append.Reads as append-reads
-use Rattle.reading.proofs.draft.read_draft.Reads as read-draft-reads
 
 -- src/lib.rt:32:9
 read-draft-requires : tie.Need-read-draft-requires

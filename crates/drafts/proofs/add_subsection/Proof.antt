@@ -2,16 +2,11 @@
 use mathlib.Core.Path.{sym, _∙_}
 use native.Mathlib.Omega.{arith}
 use Rattle.reading.proofs.Filled.{bytes-of}
-use Rattle.drafts.proofs.Calls.{reads, subsection-fault, other-section, subsection-goes, same-written}
+use Rattle.drafts.proofs.Calls.{reads, subsection-fault, other-section, subsection-goes}
+use Rattle.drafts.proofs.Outcomes.{same-written}
 use borrow.Author.Needs.{needs}
 use Rattle.drafts.proofs.add_subsection.Statement.{statement}
 use Rattle.drafts.proofs.add_subsection.Tie as tie
-use Rattle.drafts.proofs.add_subsection.Reads as reads
-use Rattle.drafts.proofs.add_subsection.Lts as lts
-use Rattle.drafts.proofs.growing.append.Reads as append-reads
-use Rattle.drafts.proofs.last.last_section.Reads as last-section-reads
-use Rattle.fields.proofs.two.Reads as two-reads
-use Rattle.reading.proofs.draft.read_draft.Reads as read-draft-reads
 
 -- src/lib.rt:45:9
 read-draft-requires : tie.Need-read-draft-requires

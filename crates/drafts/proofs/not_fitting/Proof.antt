@@ -5,10 +5,6 @@ use Rattle.drafts.proofs.Calls.{reads, header-stands, unfit-fault, unfi
 use borrow.Author.Needs.{needs}
 use Rattle.drafts.proofs.not_fitting.Statement.{statement}
 use Rattle.drafts.proofs.not_fitting.Tie as tie
-use Rattle.drafts.proofs.not_fitting.Reads as reads
-use Rattle.drafts.proofs.not_fitting.Lts as lts
-use Rattle.fields.proofs.two.Reads as two-reads
-use Rattle.reading.proofs.draft.read_draft.Reads as read-draft-reads
 
 -- src/lib.rt:19:9
 read-draft-requires : tie.Need-read-draft-requires

@@ -1,15 +1,11 @@
 -- The first line, written as far as it goes.
-use mathlib.Core.Path.{_≡_, sym, _∙_}
+use mathlib.Core.Path.{sym, _∙_}
 use native.Mathlib.Omega.{arith}
 use lib.Seq.{length-take-le}
 use Rattle.listing.proofs.Main.{length-answered}
 use borrow.Author.Needs.{needs}
 use Rattle.list_token.proofs.write_first.Statement.{statement}
 use Rattle.list_token.proofs.write_first.Tie as tie
-use Rattle.list_token.proofs.write_first.Reads as reads
-use Rattle.list_token.proofs.write_first.Lts as lts
-use Rattle.io.proofs.write_all.Reads as write-all-reads
-use Rattle.listing.proofs.first_line.Reads as first-line-reads
 
 -- src/main.rt:14:24
 slice-aggregate-first-line : tie.Need-slice-aggregate-first-line

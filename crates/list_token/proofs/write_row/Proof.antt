@@ -1,15 +1,11 @@
 -- The line of a row, written as far as it goes.
-use mathlib.Core.Path.{_≡_, sym, _∙_}
+use mathlib.Core.Path.{sym, _∙_}
 use native.Mathlib.Omega.{arith}
 use lib.Seq.{length-take-le}
 use Rattle.listing.proofs.Main.{length-answered}
 use borrow.Author.Needs.{needs}
 use Rattle.list_token.proofs.write_row.Statement.{statement}
 use Rattle.list_token.proofs.write_row.Tie as tie
-use Rattle.list_token.proofs.write_row.Reads as reads
-use Rattle.list_token.proofs.write_row.Lts as lts
-use Rattle.io.proofs.write_all.Reads as write-all-reads
-use Rattle.listing.proofs.row_line.Reads as row-line-reads
 
 -- src/main.rt:24:22
 slice-aggregate-row-line : tie.Need-slice-aggregate-row-line

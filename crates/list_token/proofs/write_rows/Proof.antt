@@ -4,9 +4,6 @@ use native.Mathlib.Omega.{arith}
 use borrow.Author.Needs.{needs}
 use Rattle.list_token.proofs.write_rows.Statement.{statement}
 use Rattle.list_token.proofs.write_rows.Tie as tie
-use Rattle.list_token.proofs.write_rows.Reads as reads
-use Rattle.list_token.proofs.write_rows.Lts as lts
-use Rattle.list_token.proofs.write_nth.Reads as write-nth-reads
 
 abbrev Inv-loop : tie.InvT-loop
 Inv-loop table n i₀ i = i ≤ n

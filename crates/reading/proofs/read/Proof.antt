@@ -1,5 +1,5 @@
 -- The header, then the sections.
-use mathlib.Core.Path.{_≡_, sym, ap, _∙_}
+use mathlib.Core.Path.{sym, ap, _∙_}
 use mathlib.Core.Bool.{true}
 use native.Mathlib.Omega.{arith}
 use Rattle.format.specs.Rules.{external}
@@ -9,10 +9,6 @@ use Rattle.reading.proofs.Headers.{id-first, header-stops, header-lengt
 use borrow.Author.Needs.{needs}
 use Rattle.reading.proofs.read.Statement.{statement}
 use Rattle.reading.proofs.read.Tie as tie
-use Rattle.reading.proofs.read.Reads as reads
-use Rattle.reading.proofs.read.Lts as lts
-use Rattle.reading.proofs.header.header.Reads as header-reads
-use Rattle.reading.proofs.whole.sections_of.Reads as sections-of-reads
 
 -- src/lib.rt:19:9
 header-requires : tie.Need-header-requires

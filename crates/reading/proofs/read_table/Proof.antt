@@ -1,16 +1,10 @@
 -- The reading's answer, the test for room, then the second pass.
-use mathlib.Core.Path.{_≡_, sym, ap, _∙_}
-use Prim.Native.Nat.{ℕ, _+_, _*_, _<_, _≤_}
+use mathlib.Core.Path.{sym, _∙_}
 use native.Mathlib.Omega.{arith}
-use lib.ListN.{length, getD}
 use Rattle.reading.proofs.Filled.{bytes-of, accepted-read, refused-table, short-table, filled-table}
 use borrow.Author.Needs.{needs}
 use Rattle.reading.proofs.read_table.Statement.{statement}
 use Rattle.reading.proofs.read_table.Tie as tie
-use Rattle.reading.proofs.read_table.Reads as reads
-use Rattle.reading.proofs.read_table.Lts as lts
-use Rattle.reading.proofs.read.Reads as read-reads
-use Rattle.table.proofs.fill.Reads as fill-reads
 
 -- src/lib.rt:32:9
 read-requires : tie.Need-read-requires

@@ -9,7 +9,9 @@ use borrow.Author.Needs.{needs}
 use Rattle.format.specs.Parts.{applicationData}
 use Rattle.storing.proofs.Stores.{stored-then}
 use Rattle.drafts.proofs.Additions.{unfit-added}
-use Rattle.section_writer.proofs.SectionBytes.{count-fits, count-unfit, fixed-fits, stored-last, section-stored, section-overlong}
+use Rattle.drafts.proofs.Fields.{count-unfit, counted-fits}
+use Rattle.drafts.proofs.StoredParts.{stored-last, section-stored}
+use Rattle.section_writer.proofs.Overlong.{section-overlong}
 use Rattle.section_writer.proofs.application_data.Statement.{statement}
 use Rattle.section_writer.proofs.application_data.Tie as tie
 
@@ -22,7 +24,7 @@ same-length c = search needs
 returns : tie.Need-returns
 returns c =
     let a = c .before .before .before .before .before .args in
-    unfit-added applicationData (a .«data» .now ∷ []) (a .draft .now) (count-unfit (a .«data» .now) 65536 _ (omega arith))
+    unfit-added applicationData (a .«data» .now ∷ []) (a .draft .now) (count-unfit (length (a .«data» .now)) 65535 _ (omega arith))
     (c .not-fitting .ensures)
 
 add-n : tie.Need-add-n
@@ -44,7 +46,7 @@ returns-2 c =
     let x = a .«data» .now in
     let l : length (x ++ []) ≡ length x = ap length (append-nil x) in
     section-overlong applicationData (x ∷ []) (a .draft .now) _ (6 + length x) refl
-    (count-fits x 65536 (omega arith) (fixed-fits x (length x) refl refl)) (omega arith) (omega arith) (omega arith)
+    (counted-fits (length x) 65535 (omega arith) refl) (omega arith) (omega arith) (omega arith)
     (s .add-section .ensures)
 
 slice-aggregate-section-head : tie.Need-slice-aggregate-section-head
@@ -90,7 +92,7 @@ returns-3 c =
     let e : 6 + length x ≡ p .put .result =
     omega (arith, h .section-head .ensures .place, n .put-two .ensures .place, p .put .ensures .place) in
     section-stored applicationData (x ∷ []) (a .draft .now) (6 + length x) refl
-    (count-fits x 65536 (omega arith) (fixed-fits x (length x) refl refl))
+    (counted-fits (length x) 65535 (omega arith) refl)
     (stored-then (h .section-head .ensures) (stored-then (n .put-two .ensures) (stored-last (p .put .ensures))))
     (omega arith) e (s .add-section2 .ensures)
 

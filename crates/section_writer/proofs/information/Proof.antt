@@ -6,7 +6,7 @@ use borrow.Author.Needs.{needs}
 use Rattle.format.specs.Parts.{information}
 use Rattle.format.specs.Writer.{informationFields}
 use Rattle.storing.proofs.Stores.{stored-then}
-use Rattle.section_writer.proofs.SectionBytes.{stored-last, section-stored}
+use Rattle.drafts.proofs.StoredParts.{stored-last, section-stored}
 use Rattle.section_writer.proofs.information.Statement.{statement}
 use Rattle.section_writer.proofs.information.Tie as tie
 

@@ -3,12 +3,14 @@ use mathlib.Core.Path.{_≡_, refl, sym}
 use mathlib.Core.Bool.{true}
 use mathlib.Core.List.{[], _∷_}
 use native.Mathlib.Omega.{arith}
+use lib.ListN.{length}
 use lib.Seq.{length-take-le}
 use borrow.Author.Needs.{needs}
 use Rattle.format.specs.Parts.{name}
 use Rattle.storing.proofs.Stores.{stored-then}
 use Rattle.drafts.proofs.Additions.{unfit-added}
-use Rattle.section_writer.proofs.SectionBytes.{fixed-fits, fixed-unfit, stored-last, section-stored}
+use Rattle.drafts.proofs.Fields.{fixed-fits, fixed-unfit}
+use Rattle.drafts.proofs.StoredParts.{stored-last, section-stored}
 use Rattle.section_writer.proofs.name.Statement.{statement}
 use Rattle.section_writer.proofs.name.Tie as tie
 
@@ -21,7 +23,7 @@ same-length c = search needs
 returns : tie.Need-returns
 returns c =
     let a = c .before .before .before .before .before .args in
-    unfit-added name (a .name .now ∷ []) (a .draft .now) (fixed-unfit (a .name .now) 64 true (λ e. omega arith))
+    unfit-added name (a .name .now ∷ []) (a .draft .now) (fixed-unfit (length (a .name .now)) 64 true (λ e. omega arith))
     (c .not-fitting .ensures)
 
 slice-aggregate-section-head : tie.Need-slice-aggregate-section-head
@@ -57,7 +59,7 @@ returns-2 c =
     let h = p .before .before .before in
     let a = h .before .before .before .before .before .args in
     let e : 68 ≡ p .put .result = omega (arith, h .section-head .ensures .place, p .put .ensures .place) in
-    section-stored name (a .name .now ∷ []) (a .draft .now) 68 refl (fixed-fits (a .name .now) 64 (omega arith) refl)
+    section-stored name (a .name .now ∷ []) (a .draft .now) 68 refl (fixed-fits (length (a .name .now)) 64 (omega arith) refl)
     (stored-then (h .section-head .ensures) (stored-last (p .put .ensures)))
     (omega arith) e (s .add-section .ensures)
 

@@ -2,9 +2,10 @@
 -- draft.
 use mathlib.Core.Path.{_≡_, refl, sym}
 use mathlib.Core.Bool.{true}
-use mathlib.Core.List.{List, [], _∷_, _++_}
-use Prim.Native.Nat.{ℕ, _+_, _<_}
+use mathlib.Core.List.{List, [], _++_}
+use Prim.Native.Nat.{ℕ, _+_, _≤_}
 use native.Mathlib.Omega.{arith}
+use lib.Dec.{ltb}
 use lib.ListN.{length, length-append}
 use lib.Seq.{length-take-le}
 use borrow.Author.Needs.{needs}
@@ -14,15 +15,18 @@ use Rattle.format.specs.Parts.{publicKey, layout}
 use Rattle.format.specs.Writer.{publicKeyFields}
 use Rattle.storing.proofs.Stores.{stored-then}
 use Rattle.drafts.proofs.Additions.{unfit-added}
-use Rattle.section_writer.proofs.SectionBytes.{count-fits, count-unfit, fixed-fits, stored-last, section-stored, section-overlong}
+use Rattle.drafts.proofs.Fields.{fixed-fits, count-fits, count-unfit, later-unfit}
+use Rattle.drafts.proofs.StoredParts.{stored-last, section-stored}
+use Rattle.section_writer.proofs.Overlong.{section-overlong}
 use Rattle.section_writer.proofs.public_key.Statement.{statement}
 use Rattle.section_writer.proofs.public_key.Tie as tie
 
 -- an exponent and a modulus that their counts can state
-key-fits : (bits : ℕ) (x y : List ℕ) (flags : ℕ) → length x < 65536 → length y < 65536
+key-fits : (bits : ℕ) (x y : List ℕ) (flags : ℕ) → length x ≤ 65535 → length y ≤ 65535
     → fits [] (layout publicKey) (publicKeyFields bits x y flags) ≡ true
 key-fits bits x y flags h k =
-    count-fits x 65536 h (count-fits y 65536 k (fixed-fits x (length x) refl (fixed-fits y (length y) refl refl)))
+    count-fits (length x) 65535 h
+    (count-fits (length y) 65535 k (fixed-fits (length x) (length x) refl (fixed-fits (length y) (length y) refl refl)))
 
 -- the length of the section
 key-length : (bits : ℕ) (x y : List ℕ) (flags : ℕ)
@@ -43,7 +47,7 @@ returns : tie.Need-returns
 returns c =
     let a = c .before .before .before .before .before .before .args in
     unfit-added publicKey (publicKeyFields (a .modulus-bits) (a .exponent .now) (a .modulus .now) (a .flags)) (a .draft .now)
-    (count-unfit (a .exponent .now) 65536 _ (omega arith)) (c .not-fitting .ensures)
+    (count-unfit (length (a .exponent .now)) 65535 _ (omega arith)) (c .not-fitting .ensures)
 
 not-fitting-requires-2 : tie.Need-not-fitting-requires-2
 not-fitting-requires-2 c κs = search needs
@@ -55,7 +59,7 @@ returns-2 : tie.Need-returns-2
 returns-2 c =
     let a = c .before .before .before .before .before .before .before .args in
     unfit-added publicKey (publicKeyFields (a .modulus-bits) (a .exponent .now) (a .modulus .now) (a .flags)) (a .draft .now)
-    (count-fits (a .exponent .now) 65536 (omega arith) (count-unfit (a .modulus .now) 65536 _ (omega arith)))
+    (later-unfit (ltb (length (a .exponent .now)) 65536) (count-unfit (length (a .modulus .now)) 65535 _ (omega arith)))
     (c .not-fitting2 .ensures)
 
 add-n : tie.Need-add-n

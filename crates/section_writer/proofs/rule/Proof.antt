@@ -2,13 +2,15 @@
 use mathlib.Core.Path.{_≡_, refl, sym}
 use mathlib.Core.Bool.{true}
 use native.Mathlib.Omega.{arith}
+use lib.ListN.{length}
 use lib.Seq.{length-take-le}
 use borrow.Author.Needs.{needs}
 use Rattle.format.specs.Parts.{rule}
 use Rattle.format.specs.Writer.{ruleFields}
 use Rattle.storing.proofs.Stores.{stored-then}
 use Rattle.drafts.proofs.Additions.{unfit-added}
-use Rattle.section_writer.proofs.SectionBytes.{fixed-fits, fixed-unfit, one-stored, stored-last, section-stored}
+use Rattle.drafts.proofs.Fields.{fixed-fits, fixed-unfit}
+use Rattle.drafts.proofs.StoredParts.{one-stored, stored-last, section-stored}
 use Rattle.section_writer.proofs.rule.Statement.{statement}
 use Rattle.section_writer.proofs.rule.Tie as tie
 
@@ -23,7 +25,7 @@ returns c =
     let a = c .before .before .before .before .before .args in
     unfit-added rule
     (ruleFields (a .rule-id .now) (a .flags) (a .generated-length) (a .key-check) (a .symmetric-format) (a .asymmetric-format))
-    (a .draft .now) (fixed-unfit (a .rule-id .now) 8 true (λ e. omega arith)) (c .not-fitting .ensures)
+    (a .draft .now) (fixed-unfit (length (a .rule-id .now)) 8 true (λ e. omega arith)) (c .not-fitting .ensures)
 
 slice-aggregate-section-head : tie.Need-slice-aggregate-section-head
 slice-aggregate-section-head c = search needs
@@ -106,7 +108,7 @@ returns-2 c =
     ) in
     section-stored rule
     (ruleFields (a .rule-id .now) (a .flags) (a .generated-length) (a .key-check) (a .symmetric-format) (a .asymmetric-format))
-    (a .draft .now) 20 refl (fixed-fits (a .rule-id .now) 8 (omega arith) refl)
+    (a .draft .now) 20 refl (fixed-fits (length (a .rule-id .now)) 8 (omega arith) refl)
     (stored-then (h .section-head .ensures)
     (stored-then (i .put .ensures)
     (stored-then (f .put-four .ensures)

@@ -12,7 +12,8 @@ use Rattle.format.specs.Parts.{dates}
 use Rattle.format.specs.Writer.{dateFields}
 use Rattle.storing.proofs.Stores.{stored-then}
 use Rattle.drafts.proofs.Additions.{unfit-added}
-use Rattle.subsection_writer.proofs.SubsectionBytes.{rest-fails, fixed-fits, fixed-other, none-stored, subsection-stored}
+use Rattle.drafts.proofs.Fields.{fixed-fits, fixed-unfit, later-unfit}
+use Rattle.drafts.proofs.StoredParts.{stored-last, subsection-stored}
 use Rattle.subsection_writer.proofs.dates.Statement.{statement}
 use Rattle.subsection_writer.proofs.dates.Tie as tie
 
@@ -35,8 +36,8 @@ returns c =
     let y = a .expiration .now in
     unfit-added dates (dateFields (a .flags) x y) (a .draft .now)
     (⊎-elim
-    (λ w. fixed-other (length x) 4 _ (w .taken))
-    (λ w. rest-fails (eqb (length x) 4) (fixed-other (length y) 4 true (eqb-false _ _ (not-true _ (w .1 .taken)))))
+    (λ w. fixed-unfit (length x) 4 _ (w .taken))
+    (λ w. later-unfit (eqb (length x) 4) (fixed-unfit (length y) 4 true (eqb-false _ _ (not-true _ (w .1 .taken)))))
     (c .before .before .if1 .came))
     (c .not-fitting .ensures)
 
@@ -96,16 +97,12 @@ returns-2 c =
     let a = i .before .before .before .before .before .args in
     let l = lengths i in
     let t : 16 ≡ y .put2 .result = omega arith in
-    subsection-stored dates (dateFields (a .flags) (a .activation .now) (a .expiration .now)) (a .draft .now) _
-    (y .put2 .last .0)
-    16
-    (y .put2 .result)
-    refl
+    subsection-stored dates (dateFields (a .flags) (a .activation .now) (a .expiration .now)) (a .draft .now) 16 refl
     (fixed-fits _ 4 (l .0) (fixed-fits _ 4 (l .1) refl))
     (stored-then (h .subsection-head .ensures)
     (stored-then (z .put-one .ensures)
     (stored-then (f .put-two .ensures)
-    (stored-then (x .put .ensures) (stored-then (y .put2 .ensures) (none-stored _ _))))))
+    (stored-then (x .put .ensures) (stored-last (y .put2 .ensures))))))
     (omega arith)
     t
     (s .add-subsection .ensures)

@@ -13,8 +13,8 @@ use Rattle.format.specs.Parts.{exportParameters}
 use Rattle.format.specs.Writer.{exportFields}
 use Rattle.storing.proofs.Stores.{stored-then}
 use Rattle.drafts.proofs.Additions.{unfit-added}
-use Rattle.subsection_writer.proofs.SubsectionBytes.{rest-fails, counted-fits, counted-long, one-stored, none-stored}
-use Rattle.subsection_writer.proofs.SubsectionBytes.{subsection-stored}
+use Rattle.drafts.proofs.Fields.{count-unfit, counted-fits, later-unfit}
+use Rattle.drafts.proofs.StoredParts.{one-stored, stored-last, subsection-stored}
 use Rattle.subsection_writer.proofs.export_parameters.Statement.{statement}
 use Rattle.subsection_writer.proofs.export_parameters.Tie as tie
 
@@ -41,9 +41,9 @@ returns c =
     let y = a .vector .now in
     unfit-added exportParameters (exportFields (a .minimum) (a .maximum) x y) (a .draft .now)
     (⊎-elim
-    (λ w. counted-long (length x) _ (w .taken))
-    (λ w. rest-fails (ltb (length x) 256)
-    (rest-fails (eqb (length x) (length x)) (counted-long (length y) _ (ltb-true _ _ (w .1 .taken)))))
+    (λ w. count-unfit (length x) 255 _ (w .taken))
+    (λ w. later-unfit (ltb (length x) 256)
+    (later-unfit (eqb (length x) (length x)) (count-unfit (length y) 255 _ (ltb-true _ _ (w .1 .taken)))))
     (c .before .before .if1 .came))
     (c .not-fitting .ensures)
 
@@ -146,21 +146,17 @@ returns-2 c =
     let l = lengths i in
     let e = small (i .before .before .before .before .before) in
     let t : 12 + length x + length y ≡ w .put2 .result = omega arith in
-    subsection-stored exportParameters (exportFields (a .minimum) (a .maximum) x y) (a .draft .now) _
-    (w .put2 .last .0)
-    (12 + length x + length y)
-    (w .put2 .result)
-    refl
-    (counted-fits (length x) (l .0) (counted-fits (length y) (l .1) refl))
+    subsection-stored exportParameters (exportFields (a .minimum) (a .maximum) x y) (a .draft .now) (12 + length x + length y) refl
+    (counted-fits (length x) 255 (l .0) (counted-fits (length y) 255 (l .1) refl))
     (stored-then (h .subsection-head .ensures)
     (stored-then (z .put-two .ensures)
     (stored-then (o .put-one .ensures)
-    (stored-then (one-stored (a .minimum) (e .0) (m .put-one2 .ensures))
-    (stored-then (one-stored (a .maximum) (e .1) (g .put-one3 .ensures))
-    (stored-then (one-stored (length x) (omega arith) (j .put-one4 .ensures))
+    (stored-then (one-stored (e .0) (m .put-one2 .ensures))
+    (stored-then (one-stored (e .1) (g .put-one3 .ensures))
+    (stored-then (one-stored (omega arith) (j .put-one4 .ensures))
     (stored-then (v .put .ensures)
-    (stored-then (one-stored (length y) (omega arith) (k .put-one5 .ensures))
-    (stored-then (w .put2 .ensures) (none-stored _ _))))))))))
+    (stored-then (one-stored (omega arith) (k .put-one5 .ensures))
+    (stored-last (w .put2 .ensures))))))))))
     (omega arith)
     t
     (s .add-subsection .ensures)

@@ -12,7 +12,8 @@ use borrow.Author.Tests.{eqb-true, eqb-false, not-true, not-false}
 use Rattle.format.specs.Parts.{protection}
 use Rattle.storing.proofs.Stores.{stored-then}
 use Rattle.drafts.proofs.Additions.{unfit-added}
-use Rattle.subsection_writer.proofs.SubsectionBytes.{rest-fails, fixed-fits, fixed-other, none-stored, subsection-stored}
+use Rattle.drafts.proofs.Fields.{fixed-fits, fixed-unfit, later-unfit}
+use Rattle.drafts.proofs.StoredParts.{stored-last, subsection-stored}
 use Rattle.subsection_writer.proofs.protection.Statement.{statement}
 use Rattle.subsection_writer.proofs.protection.Tie as tie
 
@@ -40,11 +41,11 @@ returns c =
     let z = a .mkvp .now in
     unfit-added protection (x ∷ y ∷ z ∷ []) (a .draft .now)
     (⊎-elim
-    (λ w. fixed-other (length x) 32 _ (w .taken))
-    (λ v. rest-fails (eqb (length x) 32)
+    (λ w. fixed-unfit (length x) 32 _ (w .taken))
+    (λ v. later-unfit (eqb (length x) 32)
     (⊎-elim
-    (λ w. fixed-other (length y) 8 _ (eqb-false _ _ (not-true _ (w .1 .taken))))
-    (λ w. rest-fails (eqb (length y) 8) (fixed-other (length z) 16 true (eqb-false _ _ (not-true _ (w .2 .taken)))))
+    (λ w. fixed-unfit (length y) 8 _ (eqb-false _ _ (not-true _ (w .1 .taken))))
+    (λ w. later-unfit (eqb (length y) 8) (fixed-unfit (length z) 16 true (eqb-false _ _ (not-true _ (w .2 .taken)))))
     v))
     (c .before .before .if1 .came))
     (c .not-fitting .ensures)
@@ -65,7 +66,7 @@ slice-aggregate-put : tie.Need-slice-aggregate-put
 slice-aggregate-put c = search needs
 
 put-requires : tie.Need-put-requires
-put-requires c κs = search needs
+put-requires c κs = omega (arith, lengths (c .before .before .before .before .before .before .before))
 
 slice-aggregate-put-2 : tie.Need-slice-aggregate-put-2
 slice-aggregate-put-2 c = search needs
@@ -105,16 +106,12 @@ returns-2 c =
     let a = i .before .before .before .before .before .before .before .args in
     let l = lengths i in
     let t : 62 ≡ z .put3 .result = omega arith in
-    subsection-stored protection (a .mac-key .now ∷ a .mac .now ∷ a .mkvp .now ∷ []) (a .draft .now) _
-    (z .put3 .last .0)
-    62
-    (z .put3 .result)
-    refl
+    subsection-stored protection (a .mac-key .now ∷ a .mac .now ∷ a .mkvp .now ∷ []) (a .draft .now) 62 refl
     (fixed-fits _ 32 (l .0) (fixed-fits _ 8 (l .1) (fixed-fits _ 16 (l .2) refl)))
     (stored-then (h .subsection-head .ensures)
     (stored-then (o .put-one .ensures)
     (stored-then (x .put .ensures)
-    (stored-then (y .put2 .ensures) (stored-then (z .put3 .ensures) (none-stored _ _))))))
+    (stored-then (y .put2 .ensures) (stored-last (z .put3 .ensures))))))
     (omega arith)
     t
     (s .add-subsection .ensures)

@@ -5,7 +5,7 @@ use native.Mathlib.Omega.{arith}
 use lib.Seq.{length-take-le}
 use borrow.Author.Needs.{needs}
 use Rattle.storing.proofs.Stores.{stored-then}
-use Rattle.subsection_writer.proofs.SubsectionBytes.{none-stored}
+use Rattle.drafts.proofs.StoredParts.{stored-last}
 use Rattle.subsection_writer.proofs.NamedRules.{rules-unfit, rules-stored}
 use Rattle.subsection_writer.proofs.referenced_rule.Statement.{statement}
 use Rattle.subsection_writer.proofs.referenced_rule.Tie as tie
@@ -62,9 +62,9 @@ returns-2 c =
     let a = h .before .before .before .before .before .args in
     let x = a .rule-id .now in
     let t : 14 ≡ v .put .result = omega arith in
-    rules-stored (a .tag) x (a .draft .now) _ (v .put .last .0) (v .put .result) (search needs)
+    rules-stored (a .tag) x (a .draft .now) (search needs)
     (stored-then (h .subsection-head .ensures)
-    (stored-then (z .put-one .ensures) (stored-then (v .put .ensures) (none-stored _ _))))
+    (stored-then (z .put-one .ensures) (stored-last (v .put .ensures))))
     (search needs)
     t
     (s .add-subsection .ensures)

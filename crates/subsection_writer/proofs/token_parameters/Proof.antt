@@ -13,8 +13,8 @@ use borrow.Author.Tests.{eqb-true, eqb-false, ltb-true, ltb-false, not-true, not
 use Rattle.format.specs.Parts.{tokenParameters}
 use Rattle.storing.proofs.Stores.{stored-then}
 use Rattle.drafts.proofs.Additions.{unfit-added}
-use Rattle.subsection_writer.proofs.SubsectionBytes.{rest-fails, counted-fits, counted-long, fixed-fits, fixed-other}
-use Rattle.subsection_writer.proofs.SubsectionBytes.{one-stored, none-stored, subsection-stored}
+use Rattle.drafts.proofs.Fields.{fixed-fits, fixed-unfit, count-unfit, counted-fits, later-unfit}
+use Rattle.drafts.proofs.StoredParts.{one-stored, stored-last, subsection-stored}
 use Rattle.subsection_writer.proofs.token_parameters.Statement.{statement}
 use Rattle.subsection_writer.proofs.token_parameters.Tie as tie
 
@@ -44,12 +44,12 @@ returns c =
     let z = a .label-template .now in
     unfit-added tokenParameters (x ∷ y ∷ z ∷ []) (a .draft .now)
     (⊎-elim
-    (λ w. counted-long (length x) _ (w .taken))
-    (λ v. rest-fails (ltb (length x) 256)
-    (rest-fails (eqb (length x) (length x))
+    (λ w. count-unfit (length x) 255 _ (w .taken))
+    (λ v. later-unfit (ltb (length x) 256)
+    (later-unfit (eqb (length x) (length x))
     (⊎-elim
-    (λ w. fixed-other (length y) (length x) _ (eqb-false _ _ (not-true _ (w .1 .taken))))
-    (λ w. rest-fails (eqb (length y) (length x)) (counted-long (length z) _ (ltb-true _ _ (w .2 .taken))))
+    (λ w. fixed-unfit (length y) (length x) _ (eqb-false _ _ (not-true _ (w .1 .taken))))
+    (λ w. later-unfit (eqb (length y) (length x)) (count-unfit (length z) 255 _ (ltb-true _ _ (w .2 .taken))))
     v)))
     (c .before .before .if1 .came))
     (c .not-fitting .ensures)
@@ -149,20 +149,16 @@ returns-2 c =
     let z = a .label-template .now in
     let l = lengths i in
     let t : 10 + length x + length y + length z ≡ w .put3 .result = omega arith in
-    subsection-stored tokenParameters (x ∷ y ∷ z ∷ []) (a .draft .now) _
-    (w .put3 .last .0)
-    (10 + length x + length y + length z)
-    (w .put3 .result)
-    refl
-    (counted-fits (length x) (l .0) (fixed-fits _ (length x) (l .1) (counted-fits (length z) (l .2) refl)))
+    subsection-stored tokenParameters (x ∷ y ∷ z ∷ []) (a .draft .now) (10 + length x + length y + length z) refl
+    (counted-fits (length x) 255 (l .0) (fixed-fits _ (length x) (l .1) (counted-fits (length z) 255 (l .2) refl)))
     (stored-then (h .subsection-head .ensures)
     (stored-then (n .put-two .ensures)
     (stored-then (o .put-one .ensures)
-    (stored-then (one-stored (length x) (omega arith) (j .put-one2 .ensures))
+    (stored-then (one-stored (omega arith) (j .put-one2 .ensures))
     (stored-then (u .put .ensures)
     (stored-then (v .put2 .ensures)
-    (stored-then (one-stored (length z) (omega arith) (k .put-one3 .ensures))
-    (stored-then (w .put3 .ensures) (none-stored _ _)))))))))
+    (stored-then (one-stored (omega arith) (k .put-one3 .ensures))
+    (stored-last (w .put3 .ensures)))))))))
     (omega arith)
     t
     (s .add-subsection .ensures)

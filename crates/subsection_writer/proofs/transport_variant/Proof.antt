@@ -9,7 +9,8 @@ use borrow.Author.Needs.{needs}
 use Rattle.format.specs.Parts.{transportVariant}
 use Rattle.storing.proofs.Stores.{stored-then}
 use Rattle.drafts.proofs.Additions.{unfit-added}
-use Rattle.subsection_writer.proofs.SubsectionBytes.{counted-fits, counted-long, one-stored, none-stored, subsection-stored}
+use Rattle.drafts.proofs.Fields.{count-unfit, counted-fits}
+use Rattle.drafts.proofs.StoredParts.{one-stored, stored-last, subsection-stored}
 use Rattle.subsection_writer.proofs.transport_variant.Statement.{statement}
 use Rattle.subsection_writer.proofs.transport_variant.Tie as tie
 
@@ -23,7 +24,7 @@ returns : tie.Need-returns
 returns c =
     let a = c .before .before .before .before .before .args in
     let x = a .variant .now in
-    unfit-added transportVariant (x ∷ []) (a .draft .now) (counted-long (length x) _ (c .before .before .if1 .taken)) (c .not-fitting .ensures)
+    unfit-added transportVariant (x ∷ []) (a .draft .now) (count-unfit (length x) 255 _ (c .before .before .if1 .taken)) (c .not-fitting .ensures)
 
 slice-aggregate-subsection-head : tie.Need-slice-aggregate-subsection-head
 slice-aggregate-subsection-head c = search needs
@@ -79,12 +80,12 @@ returns-2 c =
     let a = h .before .before .before .before .before .args in
     let x = a .variant .now in
     let t : 8 + length x ≡ v .put .result = omega arith in
-    subsection-stored transportVariant (x ∷ []) (a .draft .now) _ (v .put .last .0) (8 + length x) (v .put .result) refl
-    (counted-fits (length x) (search needs) refl)
+    subsection-stored transportVariant (x ∷ []) (a .draft .now) (8 + length x) refl
+    (counted-fits (length x) 255 (search needs) refl)
     (stored-then (h .subsection-head .ensures)
     (stored-then (z .put-two .ensures)
-    (stored-then (one-stored (length x) (search needs) (n .put-one .ensures))
-    (stored-then (v .put .ensures) (none-stored _ _)))))
+    (stored-then (one-stored (search needs) (n .put-one .ensures))
+    (stored-last (v .put .ensures)))))
     (search needs)
     t
     (s .add-subsection .ensures)

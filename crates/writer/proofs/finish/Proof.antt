@@ -1,16 +1,12 @@
 -- The draft's own fault, then that of its bytes as a token, then its length.
-use mathlib.Core.Path.{_≡_, sym, _∙_}
+use mathlib.Core.Path.{sym, _∙_}
 use native.Mathlib.Omega.{arith}
 use lib.Seq.{length-take-le}
-use Rattle.writer.proofs.Finishing.{accepted-draft, draft-lengths, finish-own, finish-refused, finish-done}
+use Rattle.drafts.proofs.Calls.{reads, header-stands}
+use Rattle.writer.proofs.Finishing.{finish-own, finish-refused, finish-done}
 use borrow.Author.Needs.{needs}
 use Rattle.writer.proofs.finish.Statement.{statement}
 use Rattle.writer.proofs.finish.Tie as tie
-use Rattle.writer.proofs.finish.Reads as reads
-use Rattle.writer.proofs.finish.Lts as lts
-use Rattle.fields.proofs.two.Reads as two-reads
-use Rattle.reading.proofs.draft.read_draft.Reads as read-draft-reads
-use Rattle.reading.proofs.read.Reads as read-reads
 
 -- src/lib.rt:28:9
 read-draft-requires : tie.Need-read-draft-requires
@@ -28,9 +24,9 @@ enum-known-a-2 c = search needs
 two-requires : tie.Need-two-requires
 two-requires c κs =
     let d = c .before .before .before .before .before .args .draft .now in
-    let r = accepted-draft d (sym (c .before .a2 .given .1) ∙ c .before .before .before .read-draft .ensures) in
-    let l = draft-lengths d r in
-    omega (arith, l .front)
+    let r = reads d (sym (c .before .a2 .given .1) ∙ c .before .before .before .read-draft .ensures) in
+    let l = header-stands d r in
+    omega (arith, l .least, l .there)
 
 -- src/lib.rt:33:26
 cast-length : tie.Need-cast-length
@@ -40,9 +36,9 @@ cast-length c = search needs
 slice-aggregate-read : tie.Need-slice-aggregate-read
 slice-aggregate-read c =
     let d = c .before .before .before .before .before .before .before .args .draft .now in
-    let r = accepted-draft d (sym (c .before .before .before .a2 .given .1) ∙ c .before .before .before .before .before .read-draft .ensures) in
-    let l = draft-lengths d r in
-    sym (length-take-le _ d (omega (arith, l .within, c .before .two .ensures .0)))
+    let r = reads d (sym (c .before .before .before .a2 .given .1) ∙ c .before .before .before .before .before .read-draft .ensures) in
+    let l = header-stands d r in
+    sym (length-take-le _ d (omega (arith, l .there, c .before .two .ensures .0)))
 
 -- src/lib.rt:34:17
 read-requires : tie.Need-read-requires
@@ -64,14 +60,14 @@ returns c = finish-own _ (sym (c .before .a .given .1) ∙ c .before .before .be
 returns-2 : tie.Need-returns-2
 returns-2 c =
     let d = c .before .before .before .before .before .before .before .before .before .before .before .args .draft .now in
-    let r = accepted-draft d (sym (c .before .before .before .before .before .before .before .a2 .given .1) ∙ c .before .before .before .before .before .before .before .before .before .read-draft .ensures) in
+    let r = reads d (sym (c .before .before .before .before .before .before .before .a2 .given .1) ∙ c .before .before .before .before .before .before .before .before .before .read-draft .ensures) in
     finish-refused d r (c .before .before .before .before .before .two .ensures .0) (sym (c .before .b .given .1) ∙ c .before .before .before .read .ensures)
 
 -- src/lib.rt:25:1
 returns-3 : tie.Need-returns-3
 returns-3 c =
     let d = c .before .before .before .before .before .before .before .before .before .before .before .args .draft .now in
-    let r = accepted-draft d (sym (c .before .before .before .before .before .before .before .a2 .given .1) ∙ c .before .before .before .before .before .before .before .before .before .read-draft .ensures) in
+    let r = reads d (sym (c .before .before .before .before .before .before .before .a2 .given .1) ∙ c .before .before .before .before .before .before .before .before .before .read-draft .ensures) in
     finish-done d r (c .before .before .before .before .before .two .ensures .0) (sym (c .before .b2 .given .1) ∙ c .before .before .before .read .ensures)
 
 pub finish-spec : {M : Type 1} → statement M

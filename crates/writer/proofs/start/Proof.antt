@@ -2,6 +2,7 @@
 use native.Mathlib.Omega.{arith}
 use borrow.Author.Needs.{needs}
 use Rattle.storing.proofs.Stores.{stored-then}
+use Rattle.reading.proofs.Headers.{id-known, id-below, id-above}
 use Rattle.writer.proofs.StartBytes.{too-short, id-unknown, header-stored}
 use Rattle.writer.proofs.start.Statement.{statement}
 use Rattle.writer.proofs.start.Tie as tie
@@ -25,18 +26,18 @@ returns-2 c =
     let f = c .before .before in
     let h = f .before .before .before .before in
     let a = h .before .before .before .before .before .before .args in
-    header-stored (a .id) (a .draft .now) (omega arith) (omega arith) (omega arith)
+    header-stored (a .id) (a .draft .now) (omega arith) (id-known (a .id) (omega arith) (omega arith))
     (stored-then (h .section-head .ensures) (f .put-four .ensures))
 
 returns-3 : tie.Need-returns-3
 returns-3 c =
     let a = c .before .before .before .args in
-    id-unknown (a .id) (a .draft .now) (omega arith) (λ e. omega arith) (λ e. omega arith)
+    id-unknown (a .id) (a .draft .now) (omega arith) (id-below (a .id) (omega arith))
 
 returns-4 : tie.Need-returns-4
 returns-4 c =
     let a = c .before .before .before .before .args in
-    id-unknown (a .id) (a .draft .now) (omega arith) (λ e. omega arith) (λ e. omega arith)
+    id-unknown (a .id) (a .draft .now) (omega arith) (id-above (a .id) (omega arith))
 
 pub start-spec : {M : Type 1} → statement M
 start-spec =

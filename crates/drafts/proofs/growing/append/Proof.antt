@@ -9,12 +9,6 @@ use Rattle.drafts.proofs.Outcomes.{over-most, over-lent, longer-refused
 use borrow.Author.Needs.{needs}
 use Rattle.drafts.proofs.growing.append.Statement.{statement}
 use Rattle.drafts.proofs.growing.append.Tie as tie
-use Rattle.drafts.proofs.growing.append.Reads as reads
-use Rattle.drafts.proofs.growing.append.Lts as lts
-use Rattle.drafts.proofs.growing.grow.Reads as grow-reads
-use Rattle.fields.proofs.two.Reads as two-reads
-use Rattle.reading.proofs.draft.read_draft.Reads as read-draft-reads
-use Rattle.storing.proofs.put.Reads as put-reads
 
 -- src/growing.rt:43:9
 two-requires : tie.Need-two-requires

@@ -8,11 +8,6 @@ use Rattle.drafts.proofs.Longer.{stated-at, grown-stored}
 use borrow.Author.Needs.{needs}
 use Rattle.drafts.proofs.growing.grow.Statement.{statement}
 use Rattle.drafts.proofs.growing.grow.Tie as tie
-use Rattle.drafts.proofs.growing.grow.Reads as reads
-use Rattle.drafts.proofs.growing.grow.Lts as lts
-use Rattle.drafts.proofs.growing.state.Reads as state-reads
-use Rattle.fields.proofs.two.Reads as two-reads
-use Rattle.storing.proofs.put.Reads as put-reads
 
 -- src/growing.rt:30:9
 two-requires : tie.Need-two-requires

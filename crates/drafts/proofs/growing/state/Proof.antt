@@ -2,9 +2,6 @@ use Rattle.drafts.proofs.Longer.{length-stored}
 use borrow.Author.Needs.{needs}
 use Rattle.drafts.proofs.growing.state.Statement.{statement}
 use Rattle.drafts.proofs.growing.state.Tie as tie
-use Rattle.drafts.proofs.growing.state.Reads as reads
-use Rattle.drafts.proofs.growing.state.Lts as lts
-use Rattle.storing.proofs.put_two.Reads as put-two-reads
 
 -- src/growing.rt:21:34
 add-put-two : tie.Need-add-put-two

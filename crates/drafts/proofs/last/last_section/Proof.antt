@@ -1,9 +1,9 @@
 -- `last_section`: the sections are passed one by one. Assumes nothing.
-use mathlib.Core.Path.{_≡_, refl, sym, ap, _∙_, subst}
+use mathlib.Core.Path.{_≡_, sym, ap, _∙_, subst}
 use mathlib.Core.List.{List}
 use Prim.Native.Nat.{ℕ, _+_, _-_, _≤_, _<_}
 use native.Mathlib.Omega.{arith}
-use lib.ListN.{length, drop}
+use lib.ListN.{drop}
 use Rattle.format.specs.Bytes.{Bytes, number}
 use Rattle.format.specs.Reading.{stated}
 use Rattle.sections.proofs.Laws.{at-drop}
@@ -11,9 +11,6 @@ use Rattle.reading.proofs.Filled.{bytes-of}
 use Rattle.drafts.proofs.Walk.{Passed, passed-none, passed-one, passed-all}
 use Rattle.drafts.proofs.last.last_section.Statement.{statement}
 use Rattle.drafts.proofs.last.last_section.Tie as tie
-use Rattle.drafts.proofs.last.last_section.Reads as reads
-use Rattle.drafts.proofs.last.last_section.Lts as lts
-use Rattle.fields.proofs.two.Reads as two-reads
 
 abbrev Inv-loop : tie.InvT-loop
 Inv-loop draft end last₀ p₀ last p = (end ≡ stated draft) × (Bytes draft × Passed draft last p)
@@ -25,7 +22,7 @@ abbrev μ-loop : tie.MeasureT-loop
 two-requires : tie.Need-two-requires Inv-loop μ-loop
 two-requires c κs =
     let d = c .before .args .draft .now in
-    let s = passed-none d (bytes-of d (λ k. (c .shared-slice-known .given k) .fits)) (c .before .pre) .standing in
+    let s = passed-none d (c .before .pre) .standing in
     let h = s .least in
     let t = s .there in
     omega arith
@@ -35,7 +32,7 @@ loop-holds : tie.Need-loop-holds Inv-loop μ-loop
 loop-holds c =
     let d = c .before .before .args .draft .now in
     let b = bytes-of d (λ k. (c .before .shared-slice-known .given k) .fits) in
-    (c .two .ensures .0, (b, passed-none d b (c .before .before .pre)))
+    (c .two .ensures .0, (b, passed-none d (c .before .before .pre)))
 
 -- What the turn learns of the section at p.
 abbrev turn : (d : List ℕ) (end last p : ℕ) → Inv-loop d end 0 8 last p → p < end

@@ -1,9 +1,9 @@
 -- The header, then the sections in the stated length.
-use mathlib.Core.Path.{_≡_, sym, ap, ap₂, _∙_}
+use mathlib.Core.Path.{sym, ap₂, _∙_}
 use mathlib.Core.Bool.{false}
 use Prim.Native.Nat.{ℕ}
 use native.Mathlib.Omega.{arith}
-use lib.ListN.{length, take}
+use lib.ListN.{take}
 use lib.Seq.{length-take-le}
 use Rattle.format.specs.Rules.{external}
 use Rattle.reading.specs.Progress.{sectionsAnswer}
@@ -11,11 +11,6 @@ use Rattle.reading.proofs.Headers.{id-first, header-stops, header-lengt
 use borrow.Author.Needs.{needs}
 use Rattle.reading.proofs.draft.read_draft.Statement.{statement}
 use Rattle.reading.proofs.draft.read_draft.Tie as tie
-use Rattle.reading.proofs.draft.read_draft.Reads as reads
-use Rattle.reading.proofs.draft.read_draft.Lts as lts
-use Rattle.fields.proofs.two.Reads as two-reads
-use Rattle.reading.proofs.header.header.Reads as header-reads
-use Rattle.reading.proofs.whole.sections_of.Reads as sections-of-reads
 
 -- src/draft.rt:14:9
 header-requires : tie.Need-header-requires

@@ -1,5 +1,5 @@
 -- The header's tests, in order.
-use mathlib.Core.Path.{_≡_, sym, ap, _∙_}
+use mathlib.Core.Path.{sym, ap, _∙_}
 use native.Mathlib.Omega.{arith}
 use lib.ListN.{length}
 use borrow.Author.Tests.{le-leb, lt-leb, not-true, not-false}
@@ -9,11 +9,6 @@ use Rattle.reading.proofs.Headers.{id-first}
 use borrow.Author.Needs.{needs}
 use Rattle.reading.proofs.header.header.Statement.{statement}
 use Rattle.reading.proofs.header.header.Tie as tie
-use Rattle.reading.proofs.header.header.Reads as reads
-use Rattle.reading.proofs.header.header.Lts as lts
-use Rattle.fields.proofs.four.Reads as four-reads
-use Rattle.reading.proofs.header.known_id.Reads as known-id-reads
-use Rattle.reading.proofs.header.length_allowed.Reads as length-allowed-reads
 
 -- src/header.rt:44:9
 returns : tie.Need-returns

@@ -2,8 +2,6 @@
 use Rattle.reading.proofs.Headers.{id-known, id-below, id-above}
 use Rattle.reading.proofs.header.known_id.Statement.{statement}
 use Rattle.reading.proofs.header.known_id.Tie as tie
-use Rattle.reading.proofs.header.known_id.Reads as reads
-use Rattle.reading.proofs.header.known_id.Lts as lts
 
 -- src/header.rt:14:1
 returns : tie.Need-returns

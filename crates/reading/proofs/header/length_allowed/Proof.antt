@@ -1,12 +1,8 @@
 -- The stated length, of a token or of a draft.
 use native.Mathlib.Omega.{arith}
 use Rattle.reading.proofs.Headers.{length-above, length-full, length-below, length-draft}
-use borrow.Author.Needs.{needs}
 use Rattle.reading.proofs.header.length_allowed.Statement.{statement}
 use Rattle.reading.proofs.header.length_allowed.Tie as tie
-use Rattle.reading.proofs.header.length_allowed.Reads as reads
-use Rattle.reading.proofs.header.length_allowed.Lts as lts
-use Rattle.fields.proofs.two.Reads as two-reads
 
 -- src/header.rt:26:9
 two-requires : tie.Need-two-requires

@@ -4,8 +4,6 @@ use Rattle.sections.proofs.Laws.{unless-stop, unless-zero}
 use borrow.Author.Needs.{needs}
 use Rattle.reading.proofs.other.alone.Statement.{statement}
 use Rattle.reading.proofs.other.alone.Tie as tie
-use Rattle.reading.proofs.other.alone.Reads as reads
-use Rattle.reading.proofs.other.alone.Lts as lts
 
 -- src/other.rt:24:41
 cast-t4 : tie.Need-cast-t4

@@ -1,6 +1,5 @@
 -- The kind by the id, then the checks of the kind.
-use mathlib.Core.Path.{_≡_, refl, sym, ap, _∙_}
-use Prim.Native.Nat.{_+_, _<_, _≤_}
+use mathlib.Core.Path.{refl, sym, ap, _∙_}
 use native.Mathlib.Omega.{arith}
 use lib.ListN.{getD}
 use Rattle.format.specs.Parts.{publicKey, name, information, applicationData, sectionKind}
@@ -11,13 +10,6 @@ use Rattle.reading.proofs.Others.{kind-at, alone-told, unknown}
 use borrow.Author.Needs.{needs}
 use Rattle.reading.proofs.other.other_at.Statement.{statement}
 use Rattle.reading.proofs.other.other_at.Tie as tie
-use Rattle.reading.proofs.other.other_at.Reads as reads
-use Rattle.reading.proofs.other.other_at.Lts as lts
-use Rattle.reading.proofs.other.alone.Reads as alone-reads
-use Rattle.sections.proofs.information.information_at.Reads as information-at-reads
-use Rattle.sections.proofs.plain.application_data_at.Reads as application-data-at-reads
-use Rattle.sections.proofs.plain.name_at.Reads as name-at-reads
-use Rattle.sections.proofs.public_key.public_key_at.Reads as public-key-at-reads
 
 -- src/other.rt:34:11
 shared-slice-read-match : tie.Need-shared-slice-read-match

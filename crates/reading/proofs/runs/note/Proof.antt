@@ -1,19 +1,13 @@
 -- The Rule ID of one section.
 use mathlib.Core.Path.{_≡_, sym, ap, _∙_}
-use Prim.Native.Nat.{ℕ, _+_, _<_, _≤_}
 use native.Mathlib.Omega.{arith}
-use lib.ListN.{length, getD, drop}
+use lib.ListN.{drop}
 use Rattle.format.specs.Bytes.{number, bytesAt}
 use Rattle.sections.proofs.Laws.{at-drop}
 use Rattle.rules.proofs.Ids.{held-room}
 use Rattle.reading.proofs.Notes.{rule-here, rule-noted, other-noted}
-use borrow.Author.Needs.{needs}
 use Rattle.reading.proofs.runs.note.Statement.{statement}
 use Rattle.reading.proofs.runs.note.Tie as tie
-use Rattle.reading.proofs.runs.note.Reads as reads
-use Rattle.reading.proofs.runs.note.Lts as lts
-use Rattle.fields.proofs.eight.Reads as eight-reads
-use Rattle.rule_ids.proofs.put.Reads as put-reads
 
 -- src/runs.rt:30:8
 shared-slice-read-if1 : tie.Need-shared-slice-read-if1

@@ -1,9 +1,9 @@
 -- The loop over the sections before p.
-use mathlib.Core.Path.{_≡_, refl, sym, ap, _∙_}
+use mathlib.Core.Path.{_≡_, refl}
 use mathlib.Core.List.{List, []}
-use Prim.Native.Nat.{ℕ, _+_, _-_, _<_, _≤_}
+use Prim.Native.Nat.{_-_}
 use native.Mathlib.Omega.{arith}
-use lib.ListN.{length, drop}
+use lib.ListN.{drop}
 use Rattle.format.specs.Rules.{Section}
 use Rattle.format.specs.Reading.{stated}
 use Rattle.sections.proofs.Laws.{number-at}
@@ -11,10 +11,6 @@ use Rattle.reading.specs.Progress.{Ahead, Noted}
 use Rattle.reading.proofs.Notes.{noted-next, noted-more, noted-all}
 use Rattle.reading.proofs.runs.note_before.Statement.{statement}
 use Rattle.reading.proofs.runs.note_before.Tie as tie
-use Rattle.reading.proofs.runs.note_before.Reads as reads
-use Rattle.reading.proofs.runs.note_before.Lts as lts
-use Rattle.fields.proofs.two.Reads as two-reads
-use Rattle.reading.proofs.runs.note.Reads as note-reads
 
 abbrev Inv-loop : tie.InvT-loop
 Inv-loop s ids₀ p q₀ ids q = (before : List Section) → Ahead s 8 before p → Noted s before p q ids

@@ -1,10 +1,10 @@
 -- A run of rules.
-use mathlib.Core.Path.{_≡_, refl, sym, ap, _∙_}
+use mathlib.Core.Path.{_≡_, sym, _∙_}
 use mathlib.Core.Bool.{Bool}
 use mathlib.Core.List.{List}
-use Prim.Native.Nat.{ℕ, _+_, _-_, _*_, _<_, _≤_}
+use Prim.Native.Nat.{_-_, _≤_}
 use native.Mathlib.Omega.{arith}
-use lib.ListN.{length, getD, drop}
+use lib.ListN.{length, drop}
 use borrow.Author.Needs.{needs}
 use Rattle.format.specs.Reading.{stated}
 use Rattle.sections.proofs.Laws.{number-at, byte-number}
@@ -13,11 +13,6 @@ use Rattle.reading.specs.Progress.{SectionsRead, Running}
 use Rattle.reading.proofs.Rules.{run-short, run-refused, run-found, run-more, later}
 use Rattle.reading.proofs.runs.rules.Statement.{statement}
 use Rattle.reading.proofs.runs.rules.Tie as tie
-use Rattle.reading.proofs.runs.rules.Reads as reads
-use Rattle.reading.proofs.runs.rules.Lts as lts
-use Rattle.fields.proofs.two.Reads as two-reads
-use Rattle.reading.proofs.runs.note_before.Reads as note-before-reads
-use Rattle.rules.proofs.rule_at.Reads as rule-at-reads
 
 abbrev Inv-loop : tie.InvT-loop
 Inv-loop s first rows full ids₀ p₀ n₀ ids p n = (first ≤ p) × ((x : Bool) (seen : List Bool) → SectionsRead s full x first rows seen → Running s full x seen p n ids)

@@ -1,7 +1,7 @@
 -- The loop over the sections.
 use mathlib.Core.Path.{_≡_, refl, sym, ap, ap₂, _∙_}
-use mathlib.Core.Bool.{Bool, true, false, not, _||_}
-use Prim.Native.Nat.{ℕ, zero, suc, _+_, _-_, _*_, _<_, _≤_}
+use mathlib.Core.Bool.{Bool, false, _||_}
+use Prim.Native.Nat.{_-_}
 use native.Mathlib.Omega.{arith}
 use lib.ListN.{length, getD, drop, getD-replicate}
 use borrow.Author.Needs.{needs}
@@ -11,12 +11,6 @@ use Rattle.reading.proofs.Steps.{read-none, read-whole, read-missing}
 use Rattle.reading.proofs.Sections.{Turn, turn-short, turn-refused, turn-found, turn-id, turn-more, turn-ran, ran-refused}
 use Rattle.reading.proofs.whole.sections_of.Statement.{statement}
 use Rattle.reading.proofs.whole.sections_of.Tie as tie
-use Rattle.reading.proofs.whole.sections_of.Reads as reads
-use Rattle.reading.proofs.whole.sections_of.Lts as lts
-use Rattle.fields.proofs.two.Reads as two-reads
-use Rattle.fields.proofs.wide.Reads as wide-reads
-use Rattle.reading.proofs.other.other_at.Reads as other-at-reads
-use Rattle.reading.proofs.runs.rules.Reads as rules-reads
 
 abbrev Inv-loop : tie.InvT-loop
 Inv-loop s external full seen₀ p₀ rows₀ seen p rows = Turn s full external p rows seen

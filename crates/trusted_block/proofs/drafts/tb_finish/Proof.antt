@@ -4,10 +4,6 @@ use Rattle.trusted_block.specs.Numbers.{numberOf, secondOf}
 use borrow.Author.Needs.{needs}
 use Rattle.trusted_block.proofs.drafts.tb_finish.Statement.{statement}
 use Rattle.trusted_block.proofs.drafts.tb_finish.Tie as tie
-use Rattle.trusted_block.proofs.drafts.tb_finish.Reads as reads
-use Rattle.trusted_block.proofs.drafts.tb_finish.Lts as lts
-use Rattle.trusted_block.proofs.give.Reads as give-reads
-use Rattle.writer.proofs.finish.Reads as finish-reads
 
 -- src/drafts.rt:23:10
 finish-requires : tie.Need-finish-requires

@@ -3,10 +3,6 @@ use borrow.Author.Needs.{needs}
 use Rattle.trusted_block.proofs.Given.{given}
 use Rattle.trusted_block.proofs.drafts.tb_start.Statement.{statement}
 use Rattle.trusted_block.proofs.drafts.tb_start.Tie as tie
-use Rattle.trusted_block.proofs.drafts.tb_start.Reads as reads
-use Rattle.trusted_block.proofs.drafts.tb_start.Lts as lts
-use Rattle.trusted_block.proofs.give.Reads as give-reads
-use Rattle.writer.proofs.start.Reads as start-reads
 
 -- src/drafts.rt:14:10
 start-requires : tie.Need-start-requires

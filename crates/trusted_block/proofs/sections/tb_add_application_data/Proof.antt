@@ -3,10 +3,6 @@ use borrow.Author.Needs.{needs}
 use Rattle.trusted_block.proofs.Given.{given}
 use Rattle.trusted_block.proofs.sections.tb_add_application_data.Statement.{statement}
 use Rattle.trusted_block.proofs.sections.tb_add_application_data.Tie as tie
-use Rattle.trusted_block.proofs.sections.tb_add_application_data.Reads as reads
-use Rattle.trusted_block.proofs.sections.tb_add_application_data.Lts as lts
-use Rattle.trusted_block.proofs.give.Reads as give-reads
-use Rattle.section_writer.proofs.application_data.Reads as application-data-reads
 
 -- src/sections.rt:56:10
 application-data-requires : tie.Need-application-data-requires

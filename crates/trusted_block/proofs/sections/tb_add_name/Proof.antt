@@ -3,10 +3,6 @@ use borrow.Author.Needs.{needs}
 use Rattle.trusted_block.proofs.Given.{given}
 use Rattle.trusted_block.proofs.sections.tb_add_name.Statement.{statement}
 use Rattle.trusted_block.proofs.sections.tb_add_name.Tie as tie
-use Rattle.trusted_block.proofs.sections.tb_add_name.Reads as reads
-use Rattle.trusted_block.proofs.sections.tb_add_name.Lts as lts
-use Rattle.trusted_block.proofs.give.Reads as give-reads
-use Rattle.section_writer.proofs.name.Reads as name-reads
 
 -- src/sections.rt:36:10
 name-requires : tie.Need-name-requires

@@ -3,10 +3,6 @@ use borrow.Author.Needs.{needs}
 use Rattle.trusted_block.proofs.Given.{given}
 use Rattle.trusted_block.proofs.sections.tb_add_public_key.Statement.{statement}
 use Rattle.trusted_block.proofs.sections.tb_add_public_key.Tie as tie
-use Rattle.trusted_block.proofs.sections.tb_add_public_key.Reads as reads
-use Rattle.trusted_block.proofs.sections.tb_add_public_key.Lts as lts
-use Rattle.trusted_block.proofs.give.Reads as give-reads
-use Rattle.section_writer.proofs.public_key.Reads as public-key-reads
 
 -- src/sections.rt:16:10
 public-key-requires : tie.Need-public-key-requires

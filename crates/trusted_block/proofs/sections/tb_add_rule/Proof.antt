@@ -3,10 +3,6 @@ use borrow.Author.Needs.{needs}
 use Rattle.trusted_block.proofs.Given.{given}
 use Rattle.trusted_block.proofs.sections.tb_add_rule.Statement.{statement}
 use Rattle.trusted_block.proofs.sections.tb_add_rule.Tie as tie
-use Rattle.trusted_block.proofs.sections.tb_add_rule.Reads as reads
-use Rattle.trusted_block.proofs.sections.tb_add_rule.Lts as lts
-use Rattle.trusted_block.proofs.give.Reads as give-reads
-use Rattle.section_writer.proofs.rule.Reads as rule-reads
 
 -- src/sections.rt:26:10
 rule-requires : tie.Need-rule-requires

@@ -3,10 +3,6 @@ use borrow.Author.Needs.{needs}
 use Rattle.trusted_block.proofs.Given.{given}
 use Rattle.trusted_block.proofs.subsections.tb_add_dates.Statement.{statement}
 use Rattle.trusted_block.proofs.subsections.tb_add_dates.Tie as tie
-use Rattle.trusted_block.proofs.subsections.tb_add_dates.Reads as reads
-use Rattle.trusted_block.proofs.subsections.tb_add_dates.Lts as lts
-use Rattle.trusted_block.proofs.give.Reads as give-reads
-use Rattle.subsection_writer.proofs.dates.Reads as dates-reads
 
 -- src/subsections.rt:76:10
 dates-requires : tie.Need-dates-requires

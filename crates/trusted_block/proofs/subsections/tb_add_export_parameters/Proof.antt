@@ -3,10 +3,6 @@ use borrow.Author.Needs.{needs}
 use Rattle.trusted_block.proofs.Given.{given}
 use Rattle.trusted_block.proofs.subsections.tb_add_export_parameters.Statement.{statement}
 use Rattle.trusted_block.proofs.subsections.tb_add_export_parameters.Tie as tie
-use Rattle.trusted_block.proofs.subsections.tb_add_export_parameters.Reads as reads
-use Rattle.trusted_block.proofs.subsections.tb_add_export_parameters.Lts as lts
-use Rattle.trusted_block.proofs.give.Reads as give-reads
-use Rattle.subsection_writer.proofs.export_parameters.Reads as export-parameters-reads
 
 -- src/subsections.rt:36:10
 export-parameters-requires : tie.Need-export-parameters-requires

@@ -3,10 +3,6 @@ use borrow.Author.Needs.{needs}
 use Rattle.trusted_block.proofs.Given.{given}
 use Rattle.trusted_block.proofs.subsections.tb_add_protection.Statement.{statement}
 use Rattle.trusted_block.proofs.subsections.tb_add_protection.Tie as tie
-use Rattle.trusted_block.proofs.subsections.tb_add_protection.Reads as reads
-use Rattle.trusted_block.proofs.subsections.tb_add_protection.Lts as lts
-use Rattle.trusted_block.proofs.give.Reads as give-reads
-use Rattle.subsection_writer.proofs.protection.Reads as protection-reads
 
 -- src/subsections.rt:66:10
 protection-requires : tie.Need-protection-requires

@@ -3,10 +3,6 @@ use borrow.Author.Needs.{needs}
 use Rattle.trusted_block.proofs.Given.{given}
 use Rattle.trusted_block.proofs.subsections.tb_add_source_rule.Statement.{statement}
 use Rattle.trusted_block.proofs.subsections.tb_add_source_rule.Tie as tie
-use Rattle.trusted_block.proofs.subsections.tb_add_source_rule.Reads as reads
-use Rattle.trusted_block.proofs.subsections.tb_add_source_rule.Lts as lts
-use Rattle.trusted_block.proofs.give.Reads as give-reads
-use Rattle.subsection_writer.proofs.source_rule.Reads as source-rule-reads
 
 -- src/subsections.rt:46:10
 source-rule-requires : tie.Need-source-rule-requires

@@ -3,10 +3,6 @@ use borrow.Author.Needs.{needs}
 use Rattle.trusted_block.proofs.Given.{given}
 use Rattle.trusted_block.proofs.subsections.tb_add_token_parameters.Statement.{statement}
 use Rattle.trusted_block.proofs.subsections.tb_add_token_parameters.Tie as tie
-use Rattle.trusted_block.proofs.subsections.tb_add_token_parameters.Reads as reads
-use Rattle.trusted_block.proofs.subsections.tb_add_token_parameters.Lts as lts
-use Rattle.trusted_block.proofs.give.Reads as give-reads
-use Rattle.subsection_writer.proofs.token_parameters.Reads as token-parameters-reads
 
 -- src/subsections.rt:56:10
 token-parameters-requires : tie.Need-token-parameters-requires

@@ -3,10 +3,6 @@ use borrow.Author.Needs.{needs}
 use Rattle.trusted_block.proofs.Given.{given}
 use Rattle.trusted_block.proofs.subsections.tb_add_transport_rule.Statement.{statement}
 use Rattle.trusted_block.proofs.subsections.tb_add_transport_rule.Tie as tie
-use Rattle.trusted_block.proofs.subsections.tb_add_transport_rule.Reads as reads
-use Rattle.trusted_block.proofs.subsections.tb_add_transport_rule.Lts as lts
-use Rattle.trusted_block.proofs.give.Reads as give-reads
-use Rattle.subsection_writer.proofs.transport_rule.Reads as transport-rule-reads
 
 -- src/subsections.rt:26:10
 transport-rule-requires : tie.Need-transport-rule-requires

@@ -3,10 +3,6 @@ use borrow.Author.Needs.{needs}
 use Rattle.trusted_block.proofs.Given.{given}
 use Rattle.trusted_block.proofs.subsections.tb_add_transport_variant.Statement.{statement}
 use Rattle.trusted_block.proofs.subsections.tb_add_transport_variant.Tie as tie
-use Rattle.trusted_block.proofs.subsections.tb_add_transport_variant.Reads as reads
-use Rattle.trusted_block.proofs.subsections.tb_add_transport_variant.Lts as lts
-use Rattle.trusted_block.proofs.give.Reads as give-reads
-use Rattle.subsection_writer.proofs.transport_variant.Reads as transport-variant-reads
 
 -- src/subsections.rt:16:10
 transport-variant-requires : tie.Need-transport-variant-requires
