@@ -1,6 +1,11 @@
 //! What both targets share: changes that keep a token's or a sequence's form.
 
+use trusted_block_tests::fuzzed::coded::{coded, decoded};
+use trusted_block_tests::generate::calls::{Call, Sequence};
 use trusted_block_tests::random::Random;
+
+/// How much longer what stands for a call may become.
+const LONGER: usize = 80;
 
 extern "C" {
     fn LLVMFuzzerMutate(bytes: *mut u8, length: usize, most: usize) -> usize;
@@ -61,4 +66,19 @@ pub fn change_list<T: Clone>(random: &mut Random, list: &mut Vec<T>, new: fn(&mu
         1 => list.insert(to, list[from].clone()),
         _ => list.swap(from, other),
     }
+}
+
+/// The call that libFuzzer's change of one's bytes stands for. Lengths come
+/// from the fields, so they stay in line.
+pub fn changed_call(call: &Call) -> Option<Call> {
+    let sequence = |calls| Sequence {
+        buffer: Vec::new(),
+        calls,
+    };
+    let mut bytes = coded(&sequence(vec![]));
+    let call = coded(&sequence(vec![call.clone()])).split_off(bytes.len());
+    // The first byte says which call it is.
+    bytes.push(call[0]);
+    bytes.extend(changed(&call[1..], call.len() + LONGER));
+    decoded(&bytes).calls.into_iter().next()
 }

@@ -1,9 +1,9 @@
 //! The input is a token.
 #![no_main]
 
-use trusted_block_fuzz::{change_list, changed, give_back, input, lent};
+use trusted_block_fuzz::{change_list, changed, changed_call, give_back, input, lent};
 use trusted_block_tests::fuzzed::reading;
-use trusted_block_tests::generate::calls::any_part;
+use trusted_block_tests::generate::calls::{any_part, Call};
 use trusted_block_tests::kinds::is_section;
 use trusted_block_tests::parts::written;
 use trusted_block_tests::random::Random;
@@ -38,8 +38,9 @@ pub unsafe extern "C" fn LLVMFuzzerCustomMutator(
     let token = input(bytes, length);
     let other = match random.below(8) {
         0 => other_parts(&mut random, token),
-        1 | 2 => one_part_changed(&mut random, token),
-        3 | 4 => one_field_changed(&mut random, token),
+        1 => one_part_changed(&mut random, token),
+        2 | 3 => one_field_changed(&mut random, token),
+        4 | 5 => one_part_written_otherwise(&mut random, token),
         _ => None,
     };
     let mut other = other.unwrap_or_else(|| changed(token, most));
@@ -56,6 +57,17 @@ fn other_parts(random: &mut Random, token: &[u8]) -> Option<Vec<u8>> {
     for _ in 0..random.between(1, 3) {
         change_list(random, &mut parts, any_part);
     }
+    written(id, &parts)
+}
+
+/// A legal token with other fields in a part, and all lengths in line.
+fn one_part_written_otherwise(random: &mut Random, token: &[u8]) -> Option<Vec<u8>> {
+    let (id, mut parts) = taken_apart(token).ok()?;
+    let index = random.below(parts.len());
+    let Some(Call::Add(part)) = changed_call(&Call::Add(parts[index].clone())) else {
+        return None;
+    };
+    parts[index] = part;
     written(id, &parts)
 }
 

@@ -1,7 +1,7 @@
 //! The input stands for a sequence of writer calls on a draft.
 #![no_main]
 
-use trusted_block_fuzz::{change_list, changed, give_back, input};
+use trusted_block_fuzz::{change_list, changed, changed_call, give_back, input};
 use trusted_block_tests::fuzzed::coded::{coded, decoded};
 use trusted_block_tests::fuzzed::writing;
 use trusted_block_tests::generate::calls::{any_part, Call};
@@ -30,16 +30,27 @@ pub unsafe extern "C" fn LLVMFuzzerCustomMutator(
 ) -> usize {
     let mut random = Random::new(seed.into());
     let given = input(bytes, length);
-    let other = if random.below(3) > 0 {
+    let other = if random.coin() {
         changed(given, most)
     } else {
-        let mut sequence = decoded(given);
-        for _ in 0..random.between(1, 3) {
-            change_list(&mut random, &mut sequence.calls, any_call);
-        }
-        coded(&sequence)
+        other_calls(&mut random, given)
     };
     give_back(&other, bytes, most)
+}
+
+/// One call changed, or the list of calls.
+fn other_calls(random: &mut Random, given: &[u8]) -> Vec<u8> {
+    let mut sequence = decoded(given);
+    let calls = &mut sequence.calls;
+    if random.coin() && !calls.is_empty() {
+        let index = random.below(calls.len());
+        calls[index] = changed_call(&calls[index]).unwrap_or(Call::Finish);
+    } else {
+        for _ in 0..random.between(1, 3) {
+            change_list(random, calls, any_call);
+        }
+    }
+    coded(&sequence)
 }
 
 fn any_call(random: &mut Random) -> Call {
