@@ -8,14 +8,14 @@ use Prim.Native.Nat.{ℕ, suc, _+_, _*_, _≤_, _<_}
 use lib.ListN.{length, take, drop}
 use Rattle.format.specs.Bytes.{All, Bytes, bytesAt}
 use Rattle.format.specs.Layout.{write, fieldsIn}
-use Rattle.format.specs.Parts.{isSubsection, layout, Part, size, written, writeParts, WrittenForm}
-use Rattle.format.specs.Rules.{Section}
-use Rattle.format.specs.Legal.{Lawful, Complete, Legal, rulesOfAll, joined}
+use Rattle.format.specs.Parts.{rule, isSubsection, layout, Part, size, written, writeParts, WrittenForm}
+use Rattle.format.specs.Rules.{Section, ofKind}
+use Rattle.format.specs.Legal.{Lawful, Complete, Legal, ruleCount, rulesOfAll, joined}
 use Rattle.format.specs.Reading.{refused, found, Fault, stated, reading, answer}
 use Rattle.format.specs.Table.{Placed, placed, rows, columns, tableOf, tableAnswer, tableAfter}
 use Rattle.format.specs.Views.{view, viewAnswer, stepAt}
 use Rattle.format.specs.Writer.{draftAfter, start, addition, finish}
-use Rattle.format.specs.Claims.{IsRow, Tiles, subsOf, slotsOf, viewsFrom, walk, walkPlace, additions, restate, placeBehind}
+use Rattle.format.specs.Claims.{IsRow, Tiles, subsOf, ruleRows, slotsOf, viewsFrom, walk, walkPlace, additions, restate, placeBehind}
 use Rattle.format.specs.Examples.{tokenT, AllHold, starred}
 use Rattle.format.specs.declared.Answer.the-variants.{Accepted, Refused}
 use Rattle.format.specs.declared.Step.the-variants.{End, Stopped}
@@ -105,6 +105,18 @@ one-cutting ts us a b = Runs.one-cutting ts us a b
 pub one-count-of-rules : (ts us : List (List ℕ)) (a : All Legal ts) (b : All Legal us) → joined ts ≡ joined us
     → rulesOfAll ts a ≡ rulesOfAll us b
 one-count-of-rules ts us a b e = Runs.one-count ts us a b e
+
+-- "Its count of rules is the number of its sections 12; a list's is the sum over its tokens."
+pub count-of-rules : (ps : List Part) → ruleCount ps ≡ length (ofKind rule ps)
+count-of-rules ps = Runs.count-of-sections ps
+
+pub count-over-a-list : (t : List ℕ) (ts : List (List ℕ)) (l : Legal t) (ls : All Legal ts)
+    → (rulesOfAll [] tt ≡ 0) × (rulesOfAll (t ∷ ts) (l, ls) ≡ ruleCount (l .parts) + rulesOfAll ts ls)
+count-over-a-list t ts l ls = (refl, refl)
+
+-- It is the count of the table's rows whose kind is that of section 12, which the desk bills from.
+pub count-by-rows : (bs : List ℕ) (l : Legal bs) → ruleRows (rows (l .parts)) ≡ ruleCount (l .parts)
+count-by-rows bs l = Runs.count-of-rows 8 0 0 (l .parts)
 
 -- ---- views and the walk
 

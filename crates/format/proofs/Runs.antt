@@ -1,13 +1,17 @@
 -- Legal tokens laid end to end have one cutting, and so one count of rules.
 use mathlib.Core.Path.{_≡_, refl, sym, ap, ap₂, _∙_, subst}
+use mathlib.Core.Bool.{Bool, true, false}
 use mathlib.Core.Logic.{_↔_}
-use mathlib.Core.List.{List, [], _∷_, _++_, append-nil}
-use Prim.Native.Nat.{ℕ, _+_, _*_, _^_, _≤_, _<_}
+use mathlib.Core.List.{List, [], _∷_, _++_, map, append-nil}
+use Prim.Native.Nat.{ℕ, suc, _+_, _*_, _^_, _≤_, _<_}
 use native.Mathlib.Omega.{arith}
 use lib.ListN.{length, getD, length-append, List·getD-append}
 use Rattle.format.specs.Bytes.{All}
-use Rattle.format.specs.Parts.{Part, written}
+use Rattle.format.specs.Parts.{rule, sameKind, Part, size, written}
+use Rattle.format.specs.Rules.{ofKind}
 use Rattle.format.specs.Legal.{Legal, ruleCount, rulesOfAll, joined}
+use Rattle.format.specs.Table.{placed}
+use Rattle.format.specs.Claims.{ruleRows}
 use Rattle.format.proofs.Numbers.{append-inj}
 use Rattle.format.proofs.Unique.{one-choice}
 
@@ -75,3 +79,22 @@ pub one-count :
 one-count ts us ls ms e =
     subst (λ (vs : List (List ℕ)). (ns : All Legal vs) → rulesOfAll ts ls ≡ rulesOfAll vs ns) (cutting ts us ls ms e)
     (same-count ts ls) ms
+
+-- ---- the count of rules
+
+-- It is the number of sections 12.
+pub count-of-sections : (ps : List Part) → ruleCount ps ≡ length (ofKind rule ps)
+count-of-sections [] = refl
+count-of-sections (p ∷ ps) = go (sameKind rule (p .kind)) (count-of-sections ps)
+  where
+    go : (b : Bool) → ruleCount ps ≡ length (ofKind rule ps)
+        → elim b as (λ c. ℕ) [ true ↦ 1 | false ↦ 0 ] + ruleCount ps
+        ≡ length {A = Part} (elim b as (λ c. List Part) [ true ↦ p ∷ ofKind rule ps | false ↦ ofKind rule ps ])
+    go true e = omega arith
+    go false e = omega arith
+
+-- And that of the rows that stand for them.
+pub count-of-rows : (at n o : ℕ) (ps : List Part) → ruleRows (map (λ x. x .row) (placed at n o ps)) ≡ ruleCount ps
+count-of-rows at n o [] = refl
+count-of-rows at n o (p ∷ ps) =
+    ap (λ (m : ℕ). elim (sameKind rule (p .kind)) as (λ c. ℕ) [ true ↦ 1 | false ↦ 0 ] + m) (count-of-rows (at + size p) (suc n) _ ps)

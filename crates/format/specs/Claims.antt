@@ -4,6 +4,7 @@ use mathlib.Core.Bool.{true, false}
 use mathlib.Core.List.{List, [], _∷_, _++_}
 use mathlib.Core.Option.{some}
 use Prim.Native.Nat.{ℕ, zero, suc, _+_, _/_, _%_}
+use lib.Dec.{eqb}
 use lib.ListN.{length, drop, set, getElem?}
 use Rattle.format.specs.Layout.{Slot, slots}
 use Rattle.format.specs.Parts.{Part, isSubsection, layout, size, writeParts}
@@ -31,6 +32,11 @@ Tiles at (x ∷ xs) e = (x .row .offset ≡ at) × Tiles (at + size (x .part)) x
 -- The subsections of a part, the parts behind it given: those in front of the next section, and none for a subsection.
 abbrev pub subsOf : Part → List Part → List Part
 subsOf p ps = elim (isSubsection (p .kind)) [ true ↦ [] | false ↦ frontSubs ps ]
+
+-- how many of the rows are those of rules, sections 12
+abbrev pub ruleRows : List Row → ℕ
+ruleRows [] = 0
+ruleRows (r ∷ rs) = elim (eqb 0x120000 (r .kind)) as (λ b. ℕ) [ true ↦ 1 | false ↦ 0 ] + ruleRows rs
 
 -- ---- the views of a row
 
