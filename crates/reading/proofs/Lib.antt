@@ -1,7 +1,1 @@
-pub mod Steps
-pub mod Others
-pub mod Notes
-pub mod Rules
-pub mod Sections
-pub mod Headers
 pub mod Filled

@@ -2,8 +2,8 @@
 ghost use mathlib.Core.Path.{_≡_};
 ghost use mathlib.Core.Bool.{false};
 ghost use Rattle.format.specs.Reading.{reading, rowCount, told};
-use crate::header::header;
-use crate::whole::sections_of;
+use contents::header::header;
+use contents::whole::sections_of;
 use fields::two;
 use format::Answer;
 

@@ -1,15 +1,11 @@
 // The reading of a token: its answer, and its rows into a lent table. The public calls ask nothing.
 pub mod draft; // draft.rt: the reading of a draft
-mod other; // other.rt: a section that is no rule
-mod runs; // runs.rt: the rules that follow each other
-mod whole; // whole.rt: the sections of a token or a draft
-mod header; // header.rt: the header of a token or a draft
 
 ghost use mathlib.Core.Path.{_≡_};
 ghost use Rattle.format.specs.Reading.{answer};
 ghost use Rattle.format.specs.Table.{tableAnswer, tableAfter};
-use crate::header::header;
-use crate::whole::sections_of;
+use contents::header::header;
+use contents::whole::sections_of;
 use format::Answer;
 use table::fill;
 

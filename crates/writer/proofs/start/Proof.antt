@@ -2,7 +2,7 @@
 use native.Mathlib.Omega.{arith}
 use borrow.Author.Needs.{needs}
 use Rattle.storing.proofs.Stores.{stored-then}
-use Rattle.reading.proofs.Headers.{id-known, id-below, id-above}
+use Rattle.contents.proofs.Headers.{id-known, id-below, id-above}
 use Rattle.writer.proofs.StartBytes.{too-short, id-unknown, header-stored}
 use Rattle.writer.proofs.start.Statement.{statement}
 use Rattle.writer.proofs.start.Tie as tie

@@ -1,0 +1,59 @@
+// Internal: the header of a token or a draft.
+ghost use mathlib.Core.Path.{_≡_};
+ghost use Prim.Native.Nat.{_≤_};
+ghost use lib.ListN.{length};
+ghost use Rattle.format.specs.Legal.{knownId};
+ghost use Rattle.format.specs.Reading.{lengthAllowed, headerChecks};
+ghost use Rattle.sections.specs.Refusals.{firstRefusal};
+use fields::four;
+use fields::two;
+
+// External or internal.
+fn known_id(id: u8) -> bool
+    ensures { λ r. ⌜ r ≡ knownId id ⌝ }
+{
+    match id {
+        30 | 31 => true,
+        _ => false,
+    }
+}
+
+// Whether the stated length is allowed: a token's is that of its buffer, a draft's at least 8 and no more than there is.
+fn length_allowed(s: &[u8], full: bool) -> bool
+    requires { ⌜ 8 ≤ length (now s) ⌝ }
+    ensures { λ r. ⌜ r ≡ lengthAllowed full (now (s .entry)) ⌝ }
+{
+    let n = two(s, 2);
+    if 3500 < n {
+        return false;
+    }
+    if full {
+        return n == s.len();
+    }
+    if n < 8 {
+        return false;
+    }
+    n <= s.len()
+}
+
+// The number of the first refusal of the header, of a token (full) or of a draft; 0 where there is none.
+pub fn header(s: &[u8], full: bool) -> u32
+    ensures { λ r. ⌜ r ≡ firstRefusal (headerChecks full (now (s .entry))) ⌝ }
+{
+    if s.len() < 8 {
+        return 1;
+    }
+    if !known_id(s[0]) {
+        return 2;
+    }
+    if s[1] != 0 {
+        return 3;
+    }
+    if !length_allowed(s, full) {
+        return 4;
+    }
+    if four(s, 4) != 0 {
+        return 5;
+    }
+    0
+}

@@ -1,0 +1,41 @@
+// Internal: a section that is no rule.
+ghost use mathlib.Core.Path.{_≡_};
+ghost use mathlib.Core.List.{List};
+ghost use Prim.Native.Nat.{_+_, _≤_};
+ghost use lib.ListN.{length, drop};
+ghost use Rattle.format.specs.Bytes.{number, bytesAt};
+ghost use Rattle.format.specs.Rules.{Section};
+ghost use Rattle.format.specs.Reading.{told, section};
+ghost use Rattle.format.specs.declared.Answer.the-variants.{Accepted};
+ghost use Rattle.sections.specs.Refusals.{sectionRows, unless};
+ghost use Rattle.contents.specs.Progress.{Marked};
+use format::Answer;
+use sections::information::information_at;
+use sections::plain::application_data_at;
+use sections::plain::name_at;
+use sections::public_key::public_key_at;
+
+// The answer of a section at p without subsections, from the number of its refusal.
+fn alone(refusal: u32, p: usize) -> Answer
+    requires { ⌜ p ≤ 3500 ⌝ }
+    ensures { λ r. ⌜ r ≡ unless refusal p (Accepted 1) ⌝ }
+{
+    if refusal != 0 {
+        return Answer::Refused(refusal, p as u32);
+    }
+    Answer::Accepted(1)
+}
+
+// The section at p, which is no rule and of which four bytes are there; seen says, at its id, whether its kind stands before.
+pub(crate) fn other_at(s: &[u8], p: usize, external: bool, full: bool, seen: &[bool; 22]) -> Answer
+    requires { ⌜ (p + 4 ≤ length (now s)) × (length (now s) ≤ 3500) × (number (bytesAt (now s) p 1) ≡ 18 → ⊥) ⌝ }
+    ensures { λ r. ⌜ ((before : List Section) → Marked (now (seen .entry)) before → r ≡ told sectionRows (section full external before p (drop p (now (s .entry))))) ⌝ }
+{
+    match s[p] {
+        17 => alone(public_key_at(s, p, seen[17]), p),
+        19 => alone(name_at(s, p, seen[19]), p),
+        20 => information_at(s, p, external, full, seen[20]),
+        21 => alone(application_data_at(s, p, seen[21]), p),
+        _ => Answer::Refused(7, p as u32),
+    }
+}

@@ -1,0 +1,75 @@
+// Internal: the rules that follow each other. Only this function keeps Rule IDs, so that a token without rules does not pay
+// for the set. The other kinds stand once each, so there are at most five runs, and the IDs of earlier runs are put in again.
+ghost use mathlib.Core.Path.{_≡_};
+ghost use mathlib.Core.Bool.{Bool};
+ghost use mathlib.Core.List.{List, [], _∷_, _++_};
+ghost use Prim.Native.Nat.{_+_, _<_, _≤_};
+ghost use lib.ListN.{length, drop};
+ghost use Rattle.format.specs.Bytes.{number, bytesAt};
+ghost use Rattle.format.specs.Rules.{Section};
+ghost use Rattle.format.specs.Reading.{stated};
+ghost use Rattle.rules.specs.Ids.{Held};
+ghost use Rattle.contents.specs.Progress.{Stands, Ahead, Noting, SectionsRead, SomeRead, Ran};
+use fields::eight;
+use fields::two;
+use format::Answer;
+use rule_ids::put;
+use rules::rule_at;
+
+// A run of rules: the place behind it and the rows so far, or its refusal.
+pub(crate) enum Run {
+    Next(usize, u32),
+    Fault(u32, u32),
+}
+
+// Puts the Rule ID of the section at q into the set, if it is a rule.
+fn note(s: &[u8], ids: &mut [u64; 704], q: usize)
+    requires { ⌜ Noting (now s) q (now ids) ⌝ }
+    ensures { λ _. ⌜ ((before : List Section) (c : Section) → Stands (drop q (now (s .entry))) c → Held before q (now (ids .entry)) → Held (before ++ c ∷ []) (q + stated (drop q (now (s .entry)))) (now (ids .exit))) ⌝ }
+{
+    if s[q] == 18 {
+        let _seen = put(ids, eight(s, q + 4));
+    }
+}
+
+// Puts the Rule IDs of the rules before p into the set, which is empty.
+fn note_before(s: &[u8], ids: &mut [u64; 704], p: usize)
+    requires { ⌜ (length (now s) ≤ 3500) × (p ≤ length (now s)) × Held [] 8 (now ids) × ((before : List Section) × Ahead (now s) 8 before p) ⌝ }
+    ensures { λ _. ⌜ ((before : List Section) → Ahead (now (s .entry)) 8 before p → Held before p (now (ids .exit))) ⌝ }
+{
+    let mut q: usize = 8;
+    while q < p {
+        note(s, ids, q);
+        q += two(s, q + 2);
+    }
+}
+
+// The rules that follow each other from the rule at first on, behind the rows so far.
+pub(crate) fn rules(s: &[u8], first: usize, rows: u32, full: bool) -> Run
+    requires { ⌜ (first + 4 ≤ length (now s)) × (length (now s) ≤ 3500) × (number (bytesAt (now s) first 1) ≡ 18) × SomeRead (now s) full first rows ⌝ }
+    ensures { λ r. ⌜ ((x : Bool) (seen : List Bool) → SectionsRead (now (s .entry)) full x first rows seen → Ran (now (s .entry)) full x seen first r) ⌝ }
+{
+    let mut ids = [0u64; 704];
+    note_before(s, &mut ids, first);
+    let mut p = first;
+    let mut n = rows;
+    while p < s.len() {
+        if s.len() < p + 4 {
+            return Run::Fault(6, p as u32);
+        }
+        if s[p] != 18 {
+            return Run::Next(p, n);
+        }
+        let a = rule_at(s, &mut ids, p, full);
+        match a {
+            Answer::Refused(f, at) => {
+                return Run::Fault(f, at);
+            }
+            Answer::Accepted(k) => {
+                n += k;
+            }
+        }
+        p += two(s, p + 2);
+    }
+    Run::Next(p, n)
+}
