@@ -79,7 +79,7 @@ made k fs w t e l =
     (n, e ∙ ap (λ (u : ℕ). write u (layout k) fs) (l ∙ n))
 
 -- A length stated twice is stated once.
-restate-twice : (n : ℕ) (bs : List ℕ) → restate 0 n (restate 0 n bs) ≡ restate 0 n bs
+pub restate-twice : (n : ℕ) (bs : List ℕ) → restate 0 n (restate 0 n bs) ≡ restate 0 n bs
 restate-twice n [] = refl
 restate-twice n (a ∷ []) = refl
 restate-twice n (a ∷ b ∷ []) = refl
@@ -133,7 +133,7 @@ section-made k fs d w t s f m l a = same-written d (sym (section-same k fs d w t
 -- ---- a subsection
 
 -- The last section stands behind the others.
-last-behind : (a : ℕ) (pre ts : List Section) (t : Section) → All Grouped ts
+pub last-behind : (a : ℕ) (pre ts : List Section) (t : Section) → All Grouped ts
     → lastPlace a (placeBehind pre) (ts ++ t ∷ []) ≡ placeBehind (pre ++ ts)
 last-behind a pre [] t g = ap placeBehind (sym (append-nil pre))
 last-behind a pre (q ∷ ts) t g =

@@ -16,7 +16,7 @@ use Rattle.format.specs.declared.Answer.the-variants.{Accepted, Refused}
 use Rattle.format.proofs.Accepted.{allowed}
 use Rattle.format.proofs.Numbers.{number-one}
 use Rattle.format.proofs.Tests.{tests-passed, need-passed, then-found}
-use Rattle.drafts.specs.Adding.{Reads, Standing, appended, unfit, sectionAdded, subsectionAdded, lastPlace}
+use Rattle.drafts.specs.Adding.{Reads, Standing, appended, refusedAfter, unfit, sectionAdded, subsectionAdded, lastPlace}
 use Rattle.drafts.proofs.Outcomes.{told-refused, told-found, then-refused, need-failed, refused-written}
 
 -- ---- the draft's own reading
@@ -35,18 +35,24 @@ header-stands d r =
     record { least = e; most = a .most; there = a .ends; head = omega arith; ends = omega arith }
 
 -- The draft's own fault is the answer of every call, and the draft is as it was.
-own-fault : {n p : ℕ} (d : List ℕ) (next : List Section → Outcome (List ℕ)) → Refused n p ≡ told rowCount (reading false d)
+pub fault-first : {n p : ℕ} (d : List ℕ) (next : List Section → Outcome (List ℕ)) → Refused n p ≡ told rowCount (reading false d)
     → (Refused n p ≡ writeAnswer (andThen (reading false d) next)) × (d ≡ draftAfter (andThen (reading false d) next) d)
-own-fault d next a =
+fault-first d next a =
     let r = told-refused rowCount (reading false d) a in
     refused-written (andThen (reading false d) next) d
     (record { cause = r .cause; is = then-refused next (r .is); number = r .number; place = r .place })
+
+-- Where the draft reads, a refusal stays.
+pub fault-else : {r : ℕ} (d : List ℕ) (n p : ℕ) → Accepted r ≡ told rowCount (reading false d) → Refused n p ≡ writeAnswer (refusedAfter d n p)
+fault-else d n p a =
+    let r = reads d a in
+    refused-written (refusedAfter d n p) d (record { cause = fault n p 0; is = then-found _ (r .1); number = refl; place = refl }) .0
 
 -- ---- the answer where a field does not fit
 
 pub unfit-fault : {n p : ℕ} (d : List ℕ) → Refused n p ≡ told rowCount (reading false d) → Refused n p ≡ writeAnswer (unfit d)
 unfolding unfit
-unfit-fault d a = own-fault d _ a .0
+unfit-fault d a = fault-first d _ a .0
 
 -- 24.
 pub unfit-else : {n : ℕ} (d : List ℕ) → Reads d → n ≡ stated d → Refused 24 n ≡ writeAnswer (unfit d)
@@ -59,7 +65,7 @@ unfit-else d r e =
 pub section-fault : {n p : ℕ} (d w : List ℕ) → Refused n p ≡ told rowCount (reading false d)
     → (Refused n p ≡ writeAnswer (sectionAdded d w)) × (d ≡ draftAfter (sectionAdded d w) d)
 unfolding sectionAdded
-section-fault d w a = own-fault d _ a
+section-fault d w a = fault-first d _ a
 
 pub section-goes : (d w : List ℕ) → Reads d → appended d 0 w ≡ sectionAdded d w
 unfolding sectionAdded
@@ -70,7 +76,7 @@ section-goes d w r = sym (then-found _ (r .1))
 pub subsection-fault : {n p : ℕ} (i : ℕ) (d w : List ℕ) → Refused n p ≡ told rowCount (reading false d)
     → (Refused n p ≡ writeAnswer (subsectionAdded i d w)) × (d ≡ draftAfter (subsectionAdded i d w) d)
 unfolding subsectionAdded
-subsection-fault i d w a = own-fault d _ a
+subsection-fault i d w a = fault-first d _ a
 
 -- the id of the section at a place is the byte there
 id-at : (d : List ℕ) (o : ℕ) → o < length d → idOf (drop o d) ≡ getD d o 0

@@ -1,5 +1,11 @@
 pub mod Sections
-pub mod Walk
+pub mod Tiling
+pub mod Stepping
+pub mod Cutting
+pub mod Restating
+pub mod Whole
+pub mod Fronts
+pub mod SubsectionFronts
 pub mod Joining
 pub mod Additions
 pub mod Longer

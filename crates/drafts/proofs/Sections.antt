@@ -27,7 +27,7 @@ use Rattle.format.proofs.Additions.{any-draft}
 -- ---- the bytes of sections in a row
 
 -- The parts of sections in a row.
-parts-join : (ts us : List Section) → partsOf (ts ++ us) ≡ partsOf ts ++ partsOf us
+pub parts-join : (ts us : List Section) → partsOf (ts ++ us) ≡ partsOf ts ++ partsOf us
 parts-join [] us = refl
 parts-join (t ∷ ts) us =
     ap (λ (x : List Part). t .head ∷ t .subs ++ x) (parts-join ts us)
@@ -40,14 +40,14 @@ sections-cut ts (u ∷ us) h =
     ap writeParts (parts-join ts (u ∷ us)) ∙ parts-then-section (partsOf ts) (u .head) (u .subs ++ partsOf us) (h .0 .0)
 
 -- The bytes of a section, and those behind it.
-section-then : (t : Section) (us : List Section) → All Grouped us
+pub section-then : (t : Section) (us : List Section) → All Grouped us
     → writeParts (partsOf (t ∷ us)) ≡ writeParts (t .head ∷ t .subs) ++ writeParts (partsOf us)
 section-then t [] h =
     ap (λ (x : List Part). writeParts (t .head ∷ x)) (append-nil (t .subs)) ∙ sym (append-nil (writeParts (t .head ∷ t .subs)))
 section-then t (u ∷ us) h = parts-then-section (t .head ∷ t .subs) (u .head) (u .subs ++ partsOf us) (h .0 .0)
 
 -- A section is as long as it states.
-section-long : (t : Section) → Grouped t → length (writeParts (t .head ∷ t .subs)) ≡ span (t .head) (t .subs)
+pub section-long : (t : Section) → Grouped t → length (writeParts (t .head ∷ t .subs)) ≡ span (t .head) (t .subs)
 section-long t g =
     let n : ℕ = span (t .head) (t .subs) in
     let a = length-append (write n (layout (t .head .kind)) (t .head .fields)) (writeParts (t .subs)) in
@@ -73,7 +73,7 @@ pub id-small : (k : Kind) → sectionId k < 30
 id-small k = ltb-true (sectionId k) 30 (every-kind (λ j. ltb (sectionId j) 30) refl k)
 
 -- A written section begins with its id.
-id-framed : (b : Bool) (i g t : ℕ) (l : List Item) (fs : Fields) (z : List ℕ) → b ≡ false → i < 256
+pub id-framed : (b : Bool) (i g t : ℕ) (l : List Item) (fs : Fields) (z : List ℕ) → b ≡ false → i < 256
     → idOf (write t (frame b i g ++ l) fs ++ z) ≡ i
 unfolding number bytesAt
 id-framed true i g t l fs z e h = absurd (let q : _≡_ {A = ℕ} 0 1 = cc in omega arith)

@@ -1,6 +1,6 @@
 -- Internal: an addition as bytes. What is added is the part's bytes as they are to stand in the draft.
 use mathlib.Core.Path.{_≡_}
-use mathlib.Core.Bool.{false, _&&_}
+use mathlib.Core.Bool.{Bool, true, false, _&&_, _||_}
 use mathlib.Core.List.{List, [], _∷_, _++_}
 use Prim.Native.Nat.{ℕ, _+_, _≤_}
 use lib.Dec.{eqb, leb}
@@ -26,9 +26,18 @@ appended d o w =
     need (leb (stated d + length w) 3500 && leb (stated d + length w) (length d)) (fault 23 (stated d) 0)
     (andThen (reading false (grown d o w)) (λ ts. found (grown d o w)))
 
+-- the draft's own fault, else the refusal with this number and place
+abbrev pub refusedAfter : List ℕ → ℕ → ℕ → Outcome (List ℕ)
+refusedAfter d n p = andThen (reading false d) (λ ss. refused (fault n p 0))
+
 -- the draft's own fault, else 24
 unfoldable pub unfit : List ℕ → Outcome (List ℕ)
-unfit d = andThen (reading false d) (λ ss. refused (fault 24 (stated d) 0))
+unfit d = refusedAfter d 24 (stated d)
+
+-- an outcome whose refusal gives way to the draft's own fault
+unfoldable pub ownFirst : List ℕ → Outcome (List ℕ) → Outcome (List ℕ)
+ownFirst d (refused f) = andThen (reading false d) (λ ss. refused f)
+ownFirst d (found bs) = found bs
 
 -- the addition of a section: the draft's own fault, then 23 and the rest
 unfoldable pub sectionAdded : List ℕ → List ℕ → Outcome (List ℕ)
@@ -41,6 +50,14 @@ subsectionAdded i d w =
     (λ ss.
     let o = lastPlace 0 8 ss in
     need (eqb (idOf (drop o d)) i) (fault 25 (stated d) 0) (appended d o w))
+
+-- sections 12 and 14 have subsections
+abbrev pub holdsSubsections : ℕ → Bool
+holdsSubsections i = eqb i 0x12 || eqb i 0x14
+
+-- the bytes of their fixed fields
+abbrev pub fixedFields : ℕ → ℕ
+fixedFields i = elim (eqb i 0x12) [ true ↦ 20 | false ↦ 10 ]
 
 -- the draft's bytes are there, and so are those of the section at place o, or of the header where o is 0
 pub record Standing (d : List ℕ) (o : ℕ) : Type 0 where

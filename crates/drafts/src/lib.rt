@@ -4,14 +4,31 @@ pub mod heads; // heads.rt: how a part's bytes begin
 mod last; // last.rt: the last section of a draft
 
 ghost use mathlib.Core.Path.{_≡_};
+ghost use mathlib.Core.Bool.{true};
+ghost use lib.ListN.{take};
 ghost use Rattle.format.specs.Bytes.{Bytes};
+ghost use Rattle.format.specs.Reading.{stated};
 ghost use Rattle.format.specs.Writer.{writeAnswer, draftAfter};
-ghost use Rattle.drafts.specs.Adding.{unfit, sectionAdded, subsectionAdded};
+ghost use Rattle.drafts.specs.Adding.{Standing, unfit, refusedAfter, ownFirst, appended, sectionAdded, subsectionAdded, holdsSubsections, fixedFields};
+ghost use Rattle.drafts.specs.Tiling.{LastAt};
 use crate::growing::append;
+use crate::last::Last;
+use crate::last::last_part;
 use crate::last::last_section;
 use fields::two;
 use format::Answer;
 use reading::draft::read_draft;
+
+// The answer of a call that is refused: the draft's own fault, else the refusal.
+fn own_fault_or(draft: &[u8], number: u32, place: u32) -> Answer
+    ensures { λ r. ⌜ r ≡ writeAnswer (refusedAfter (now (draft .entry)) number place) ⌝ }
+{
+    let a = read_draft(draft);
+    match a {
+        Answer::Refused(own, at) => Answer::Refused(own, at),
+        Answer::Accepted(_rows) => Answer::Refused(number, place),
+    }
+}
 
 // The answer where a lent field does not have its length: the draft's own fault, else 24.
 pub fn not_fitting(draft: &[u8]) -> Answer
@@ -24,34 +41,13 @@ pub fn not_fitting(draft: &[u8]) -> Answer
     }
 }
 
-// Adds the bytes of a section.
-pub fn add_section(draft: &mut [u8], part: &[u8]) -> Answer
-    ensures answer { λ r. ⌜ r ≡ writeAnswer (sectionAdded (now (draft .entry)) (now (part .entry))) ⌝ }
-    ensures draft { λ _. ⌜ now (draft .exit) ≡ draftAfter (sectionAdded (now (draft .entry)) (now (part .entry))) (now (draft .entry)) ⌝ }
-    ensures bytes { λ _. ⌜ Bytes (now (draft .entry)) ⌝ }
+// The bytes of the fixed fields of a section that has subsections.
+fn fixed_fields(id: u8) -> usize
+    ensures { λ r. ⌜ r ≡ fixedFields id ⌝ }
 {
-    let a = read_draft(draft);
-    match a {
-        Answer::Refused(number, place) => Answer::Refused(number, place),
-        Answer::Accepted(_rows) => append(draft, 0, part),
+    if id == 0x12 {
+        return 20;
     }
+    10
 }
 
-// Adds the bytes of a subsection to the last section, which is to have the given id.
-pub fn add_subsection(draft: &mut [u8], id: u8, part: &[u8]) -> Answer
-    ensures answer { λ r. ⌜ r ≡ writeAnswer (subsectionAdded id (now (draft .entry)) (now (part .entry))) ⌝ }
-    ensures draft { λ _. ⌜ now (draft .exit) ≡ draftAfter (subsectionAdded id (now (draft .entry)) (now (part .entry))) (now (draft .entry)) ⌝ }
-    ensures bytes { λ _. ⌜ Bytes (now (draft .entry)) ⌝ }
-{
-    let a = read_draft(draft);
-    match a {
-        Answer::Refused(number, place) => Answer::Refused(number, place),
-        Answer::Accepted(_rows) => {
-            let place = last_section(draft);
-            if draft[place] != id {
-                return Answer::Refused(25, two(draft, 2) as u32);
-            }
-            append(draft, place, part)
-        }
-    }
-}

@@ -46,7 +46,7 @@ framed true i g t u l fs z p =
     ap (λ (y : List ℕ). g / 256 % 256 ∷ g % 256 ∷ u / 256 % 256 ∷ u % 256 ∷ 0 ∷ y ++ z) (unstated l u t fs p)
 
 -- Another length in a part changes its bytes 2 and 3.
-relength : (k : Kind) (t u : ℕ) (fs : Fields) (z : List ℕ) → write u (layout k) fs ++ z ≡ restate 0 u (write t (layout k) fs ++ z)
+pub relength : (k : Kind) (t u : ℕ) (fs : Fields) (z : List ℕ) → write u (layout k) fs ++ z ≡ restate 0 u (write t (layout k) fs ++ z)
 relength k t u fs z = framed (isSubsection k) (sectionId k) (tag k) t u (body k) fs z (body-plain k)
 
 -- The written form with other parts' bytes behind the same header but for its length.

@@ -1,111 +1,59 @@
--- `last_section`: the sections are passed one by one. Assumes nothing.
+-- The header, then the loop over the sections.
 use mathlib.Core.Path.{_≡_, sym, ap, _∙_, subst}
-use mathlib.Core.List.{List}
-use Prim.Native.Nat.{ℕ, _+_, _-_, _≤_, _<_}
+use mathlib.Core.Bool.{false}
+use Prim.Native.Nat.{ℕ}
 use native.Mathlib.Omega.{arith}
-use lib.ListN.{drop}
-use Rattle.format.specs.Bytes.{Bytes, number}
-use Rattle.format.specs.Reading.{stated}
-use Rattle.sections.proofs.Laws.{at-drop}
+use lib.ListN.{take}
+use lib.Seq.{length-take-le}
+use borrow.Author.Needs.{needs}
 use Rattle.reading.proofs.Filled.{bytes-of}
-use Rattle.drafts.proofs.Walk.{Passed, passed-none, passed-one, passed-all}
+use Rattle.contents.proofs.Headers.{header-lengths}
+use Rattle.drafts.specs.Tiling.{LastOf}
+use Rattle.drafts.specs.declared.last.Last.{Last}
+use Rattle.drafts.proofs.Whole.{header-unread, section-last}
 use Rattle.drafts.proofs.last.last_section.Statement.{statement}
 use Rattle.drafts.proofs.last.last_section.Tie as tie
 
-abbrev Inv-loop : tie.InvT-loop
-Inv-loop draft end last₀ p₀ last p = (end ≡ stated draft) × (Bytes draft × Passed draft last p)
+header-requires : tie.Need-header-requires
+header-requires c κs = search needs
 
-abbrev μ-loop : tie.MeasureT-loop
-μ-loop draft end last₀ p₀ last p = end - p
+returns : tie.Need-returns
+returns c = header-unread (c .before .before .before .args .draft .now) (c .before .header .ensures) (c .if1 .taken)
 
--- src/last.rt:16:9
-two-requires : tie.Need-two-requires Inv-loop μ-loop
+two-requires : tie.Need-two-requires
 two-requires c κs =
-    let d = c .before .args .draft .now in
-    let s = passed-none d (c .before .pre) .standing in
-    let h = s .least in
-    let t = s .there in
-    omega arith
+    let l = header-lengths false (c .before .before .before .args .draft .now) (c .before .header .ensures) (c .if1 .left) in
+    omega (arith, l .front)
 
--- src/last.rt:19:5
-loop-holds : tie.Need-loop-holds Inv-loop μ-loop
-loop-holds c =
-    let d = c .before .before .args .draft .now in
-    let b = bytes-of d (λ k. (c .before .shared-slice-known .given k) .fits) in
-    (c .two .ensures .0, (b, passed-none d (c .before .before .pre)))
-
--- What the turn learns of the section at p.
-abbrev turn : (d : List ℕ) (end last p : ℕ) → Inv-loop d end 0 8 last p → p < end
-    → (p + 4 ≤ stated d) × (4 ≤ stated (drop p d)) × (p + stated (drop p d) ≤ stated d) × Passed d p (p + stated (drop p d))
-turn d end last p i h = passed-one d last p (i .1 .0) (i .1 .1) (let e = i .0 in omega arith)
-
--- src/last.rt:21:18
-add-two : tie.Need-add-two Inv-loop μ-loop
-add-two c =
-    let l = c .before .loop in
-    let t = turn _ _ (l .last) (l .p) (l .inv) (c .loop-test .taken) in
-    let a = t .0 in
-    let m = l .inv .1 .1 .standing .most in
-    omega arith
-
--- src/last.rt:21:14
-two-requires-2 : tie.Need-two-requires-2 Inv-loop μ-loop
-two-requires-2 c κs =
-    let l = c .before .loop in
-    let t = turn _ _ (l .last) (l .p) (l .inv) (c .loop-test .taken) in
-    let a = t .0 in
-    let m = l .inv .1 .1 .standing .there in
-    omega arith
-
--- src/last.rt:21:9
-add-p : tie.Need-add-p Inv-loop μ-loop
-add-p c =
-    let l = c .before .before .loop in
-    let t = turn _ _ (l .last) (l .p) (l .inv) (c .before .loop-test .taken) in
-    let a = t .0 in
-    let m = l .inv .1 .1 .standing .most in
-    let b = c .two2 .ensures .1 in
-    omega arith
-
--- src/last.rt:19:5
-loop-less : tie.Need-loop-less Inv-loop μ-loop
-loop-less c =
-    let l = c .before .before .loop in
+slice-aggregate-last-part : tie.Need-slice-aggregate-last-part
+slice-aggregate-last-part c =
     let d = c .before .before .before .before .before .args .draft .now in
-    let t = turn d _ (l .last) (l .p) (l .inv) (c .before .loop-test .taken) in
-    let a = t .1 in
-    let e = c .two2 .ensures .0 ∙ sym (ap number (at-drop d (l .p) 2 2)) in
-    let h = c .before .loop-test .taken in
-    omega arith
+    let l = header-lengths false d (c .before .before .before .header .ensures) (c .before .before .if1 .left) in
+    sym (length-take-le _ d (omega (arith, l .within, c .before .two .ensures .0)))
 
--- src/last.rt:19:5
-loop-again : tie.Need-loop-again Inv-loop μ-loop
-loop-again c =
-    let l = c .before .before .loop in
+last-part-requires : tie.Need-last-part-requires
+last-part-requires c κs =
     let d = c .before .before .before .before .before .args .draft .now in
-    let t = turn d _ (l .last) (l .p) (l .inv) (c .before .loop-test .taken) in
-    let e = c .two2 .ensures .0 ∙ sym (ap number (at-drop d (l .p) 2 2)) in
-    (l .inv .0, (l .inv .1 .0, subst (λ (n : ℕ). Passed d (l .p) (l .p + n)) (sym e) (t .3)))
+    let l = header-lengths false d (c .before .before .before .header .ensures) (c .before .before .if1 .left) in
+    let n = c .before .two .ensures .0 in
+    let m = length-take-le (c .before .two .result) d (omega (arith, l .within, n)) in
+    (omega (arith, m, n, l .least), omega (arith, m, n, l .most))
 
--- src/last.rt:11:1
-returns : tie.Need-returns Inv-loop μ-loop
-returns c =
-    let l = c .before .loop in
-    let d = c .before .before .before .before .args .draft .now in
-    let i = l .inv in
-    (passed-all d (l .last) (l .p) (i .1 .0) (i .1 .1) (let e = i .0 in let t = c .loop-test .left in omega arith), i .1 .1 .standing)
+returns-2 : tie.Need-returns-2
+returns-2 c =
+    let s = c .before .before .before .before .before .before in
+    let d = s .args .draft .now in
+    section-last d (c .last-part .result) (bytes-of d (λ k. (c .before .before .before .before .before .shared-slice-known .given k) .fits))
+    (c .before .before .before .before .header .ensures) (c .before .before .before .if1 .left)
+    (subst (λ (n : ℕ). LastOf (take n d) 8 (c .last-part .result)) (c .before .before .two .ensures .0) (c .last-part .ensures))
 
 pub last-section-spec : {M : Type 1} → statement M
 last-section-spec =
     tie.close
     (tie.spec
-    Inv-loop
-    μ-loop
+    header-requires
+    returns
     two-requires
-    loop-holds
-    add-two
-    two-requires-2
-    add-p
-    loop-less
-    loop-again
-    returns)
+    slice-aggregate-last-part
+    last-part-requires
+    returns-2)

@@ -1,0 +1,69 @@
+-- The loop over parts by the lengths that they state. Assumes nothing.
+use mathlib.Core.Path.{_≡_, refl, sym, ap, _∙_, subst}
+use mathlib.Core.Bool.{true, false}
+use mathlib.Core.List.{List}
+use Prim.Native.Nat.{ℕ, _+_, _-_, _≤_, _<_}
+use native.Mathlib.Omega.{arith}
+use lib.Dec.{eqb}
+use lib.ListN.{length, drop, length-drop}
+use lib.Seq.{drop-drop}
+use borrow.Author.Tests.{eq-eqb, ne-eqb}
+use Rattle.format.specs.Reading.{stated}
+use Rattle.format.proofs.Grouping.{is-true, is-false}
+use Rattle.drafts.specs.Adding.{fixedFields}
+use Rattle.drafts.specs.Tiling.{TiledTo, here, Tiled, LastAt}
+use Rattle.drafts.proofs.Tiling.{tiled-more, tiled-on, tiled-first}
+
+-- The parts from `first` to p are passed, the last of them standing at `last`.
+pub record Stepped (s : List ℕ) (first last p : ℕ) : Type 0 where
+  pub front : first ≤ p
+  pub inside : p ≤ length s
+  pub tiled : TiledTo (drop p s) (drop first s)
+  pub from : first < p → (first ≤ last) × (last + 4 ≤ length s) × TiledTo (drop last s) (drop first s) × (last + stated (drop last s) ≡ p)
+
+-- At first none is passed.
+pub stepped-none : (s : List ℕ) (first : ℕ) → first ≤ length s → Stepped s first first first
+stepped-none s first h = record { front = omega arith; inside = h; tiled = here; from = λ q. absurd (omega arith) }
+
+-- One part more.
+pub stepped-more : {s : List ℕ} {first last p n : ℕ} → Stepped s first last p → p < length s → n ≡ stated (drop p s) → 4 ≤ n → n ≤ length s - p
+    → Stepped s first p (p + n)
+stepped-more {s} {first} {last} {p} {n} w h e a b =
+    let l = length-drop p s in
+    let f = w .front in
+    record {
+      front = omega arith;
+      inside = omega arith;
+      tiled = subst (λ (y : List ℕ). TiledTo y (drop first s)) (ap (λ (m : ℕ). drop m (drop p s)) (sym e) ∙ drop-drop n p s)
+          (tiled-more (w .tiled) (omega arith) (omega arith));
+      from = λ q. (f, omega arith, w .tiled, omega arith);
+    }
+
+-- A part that does not end within the bytes: they are not tiled.
+pub stepped-broken : {s : List ℕ} {first last p : ℕ} → Stepped s first last p → p < length s
+    → (4 ≤ stated (drop p s) → stated (drop p s) ≤ length s - p → ⊥) → Tiled (drop first s) → ⊥
+stepped-broken {s} {first} {last} {p} w h never u =
+    let l = length-drop p s in
+    let t = tiled-first (tiled-on (w .tiled) u) (omega arith) in
+    let m = t .1 in
+    never (t .0) (omega arith)
+
+-- At the end the last part is known.
+pub stepped-all : {s : List ℕ} {first last p : ℕ} → Stepped s first last p → length s ≤ p → (p ≡ first → ⊥) → LastAt s first last
+stepped-all {s} {first} {last} {p} w h other =
+    let f = w .front in
+    let i = w .inside in
+    let g = w .from (later other) in
+    let e = g .3 in
+    record { front = g .0; head = g .1; tiled = g .2; ends = omega arith }
+  where
+    later : (p ≡ first → ⊥) → first < p
+    later k = let f = w .front in omega arith
+
+-- ---- the fixed fields of sections 12 and 14
+
+pub fixed-rule : {i : ℕ} → i ≡ 18 → 20 ≡ fixedFields i
+fixed-rule {i} e = sym (is-true (eqb i 18) 20 10 (eq-eqb i 18 e))
+
+pub fixed-other : {i : ℕ} → (i ≡ 18 → ⊥) → 10 ≡ fixedFields i
+fixed-other {i} e = sym (is-false (eqb i 18) 20 10 (ne-eqb i 18 e))

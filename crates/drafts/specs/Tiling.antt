@@ -1,0 +1,39 @@
+-- Internal: parts that follow each other, each as long as it states.
+use mathlib.Core.Path.{_≡_}
+use mathlib.Core.Bool.{false}
+use mathlib.Core.List.{List, []}
+use Prim.Native.Nat.{ℕ, _+_, _≤_}
+use lib.ListN.{length, take, drop}
+use Rattle.format.specs.Reading.{stated, headerChecks}
+use Rattle.format.proofs.Tests.{Hold}
+use Rattle.drafts.specs.Adding.{Reads}
+use Rattle.drafts.specs.declared.last.Last.{Last}
+use Rattle.drafts.specs.declared.last.Last.the-variants.{At, Empty, Broken}
+
+-- stepping from part to part by the lengths that they state, one comes from the front of the bytes to z
+pub data TiledTo (z : List ℕ) : List ℕ → Type 0 where
+  here : TiledTo z z
+  next : {r : List ℕ} → 4 ≤ stated r → stated r ≤ length r → TiledTo z (drop (stated r) r) → TiledTo z r
+
+-- the parts end where the bytes do
+abbrev pub Tiled : List ℕ → Type 0
+Tiled r = TiledTo [] r
+
+-- the last part of s from the place first on begins at p
+pub record LastAt (s : List ℕ) (first p : ℕ) : Type 0 where
+  pub front : first ≤ p
+  pub head : p + 4 ≤ length s
+  pub tiled : TiledTo (drop p s) (drop first s)
+  pub ends : p + stated (drop p s) ≡ length s
+
+-- what is found of the last part of s from the place first on
+abbrev pub LastOf : List ℕ → ℕ → Last → Type 0
+LastOf s first (At p) = LastAt s first p
+LastOf s first Empty = first ≡ length s
+LastOf s first Broken = Tiled (drop first s) → ⊥
+
+-- what is found of the last section of a draft: its header passes its tests, or the draft does not read
+abbrev pub LastSection : List ℕ → Last → Type 0
+LastSection d (At p) = Hold (headerChecks false d) × LastAt (take (stated d) d) 8 p
+LastSection d Empty = Hold (headerChecks false d) × (stated d ≡ 8)
+LastSection d Broken = Reads d → ⊥
