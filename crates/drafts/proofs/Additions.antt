@@ -19,6 +19,7 @@ use Rattle.format.specs.declared.Answer.{Answer}
 use Rattle.format.proofs.Finding.{sectionId-pos}
 use Rattle.format.proofs.Unique.{size-any}
 use Rattle.format.proofs.Tests.{need-passed}
+use Rattle.format.proofs.Turns.{then-same}
 use Rattle.format.proofs.Grouping.{Grouped, all-split}
 use Rattle.format.proofs.Sound.{GoodSection, subs-of}
 use Rattle.format.proofs.Flat.{grouped, flat-joins}
@@ -32,12 +33,6 @@ use Rattle.drafts.proofs.Outcomes.{need-failed, same-written}
 use Rattle.drafts.proofs.Joining.{section-joins, sub-joins-last, sub-alone}
 
 -- ---- outcomes
-
--- What follows an outcome may be said otherwise for what was found.
-same-then : {A B : Type 0} (o : Outcome A) (f g : A → Outcome B) → ((a : A) → o ≡ found a → f a ≡ g a) → andThen o f ≡ andThen o g
-unfolding andThen
-same-then (refused x) f g h = refl
-same-then (found a) f g h = h a refl
 
 -- The same test, and the same behind it where it passes.
 same-need : {A : Type 0} (b c : Bool) (f : Fault) (x y : Outcome A) → b ≡ c → (b ≡ true → x ≡ y) → need b f x ≡ need c f y
@@ -66,7 +61,7 @@ pub unfit-added : {r : Answer} (k : Kind) (fs : Fields) (d : List ℕ) → fits 
     → (r ≡ writeAnswer (addition k fs d)) × (d ≡ draftAfter (addition k fs d) d)
 unfolding addition unfit
 unfit-added k fs d f e =
-    same-written d (sym (same-then (reading false d) _ _ (λ ss q. need-failed (fits [] (layout k) fs) (fault 24 (stated d) 0) _ f))) e
+    same-written d (sym (then-same (reading false d) _ _ (λ ss q. need-failed (fits [] (layout k) fs) (fault 24 (stated d) 0) _ f))) e
     (sym (unfit-kept d))
 
 -- ---- the longer draft
@@ -113,7 +108,7 @@ section-same : (k : Kind) (fs : Fields) (d w : List ℕ) (t : ℕ) → isSubsect
     → w ≡ write t (layout k) fs → t ≡ length w → Bytes d → addition k fs d ≡ sectionAdded d w
 unfolding addition sectionAdded
 section-same k fs d w t s f m l b =
-    same-then (reading false d) _ _
+    then-same (reading false d) _ _
     (λ ss e.
     let p : Part = record { kind = k; fields = fs } in
     let r = reading-sound false d ss b e in
@@ -168,6 +163,14 @@ Same25 d w p ss =
     (andThen (reading false (longer d ss p)) (λ ts. found (longer d ss p))))
     ≡ need (eqb (idOf (drop (lastPlace 0 8 ss) d)) (sectionId (p .kind))) (fault 25 (stated d) 0) (appended d (lastPlace 0 8 ss) w)
 
+-- A token's id is above every section's.
+pub id-known : (i : ℕ) → knownId i ≡ true → 30 ≤ i
+id-known i k = go (eqb i 0x1E) refl
+  where
+    go : (v : Bool) → eqb i 0x1E ≡ v → 30 ≤ i
+    go true q = let x = eqb-true i 0x1E q in omega arith
+    go false q = let x = eqb-true i 0x1F (sym (ap (λ (v : Bool). v || eqb i 0x1F) q) ∙ k) in omega arith
+
 -- Without a section both refuse: the header's id is no section's.
 same-none : (d w : List ℕ) (p : Part) → Bytes d → reading false d ≡ found [] → isSubsection (p .kind) ≡ true → Same25 d w p []
 same-none d w p b e s =
@@ -176,13 +179,6 @@ same-none d w p b e s =
     let small = id-small (p .kind) in
     need-failed (joins 0 (p ∷ [])) (fault 25 (stated d) 0) _ (sub-alone p s (sectionId-pos (p .kind)))
     ∙ sym (need-failed (eqb (idOf d) (sectionId (p .kind))) (fault 25 (stated d) 0) _ (ne-eqb (idOf d) (sectionId (p .kind)) (λ q. omega arith)))
-  where
-    id-known : (i : ℕ) → knownId i ≡ true → 30 ≤ i
-    id-known i k = go (eqb i 0x1E) refl
-      where
-        go : (v : Bool) → eqb i 0x1E ≡ v → 30 ≤ i
-        go true q = let x = eqb-true i 0x1E q in omega arith
-        go false q = let x = eqb-true i 0x1F (sym (ap (λ (v : Bool). v || eqb i 0x1F) q) ∙ k) in omega arith
 
 -- With a last section both ask for its id.
 same-last : (d w : List ℕ) (p : Part) (ts : List Section) (t : Section) → Bytes d → reading false d ≡ found (ts ++ t ∷ [])
@@ -217,7 +213,7 @@ sub-same : (k : Kind) (fs : Fields) (d w : List ℕ) (t : ℕ) → isSubsection 
     → w ≡ write t (layout k) fs → t ≡ length w → Bytes d → addition k fs d ≡ subsectionAdded (sectionId k) d w
 unfolding addition subsectionAdded
 sub-same k fs d w t s f m l b =
-    same-then (reading false d) _ _
+    then-same (reading false d) _ _
     (λ ss e.
     let p : Part = record { kind = k; fields = fs } in
     let v = made k fs w t m l in

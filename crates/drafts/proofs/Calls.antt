@@ -1,23 +1,25 @@
 -- The draft's own fault, and where an addition goes on behind it. Assumes nothing.
-use mathlib.Core.Path.{_≡_, refl, sym, ap, _∙_}
-use mathlib.Core.Bool.{false}
+use mathlib.Core.Path.{_≡_, refl, sym, ap, ap₂, _∙_}
+use mathlib.Core.Bool.{false, _&&_}
 use mathlib.Core.List.{List}
-use Prim.Native.Nat.{ℕ, _<_}
+use Prim.Native.Nat.{ℕ, _+_, _<_, _≤_}
 use native.Mathlib.Nat.{add-zero}
 use native.Mathlib.Omega.{arith}
-use lib.Dec.{eqb}
+use lib.Dec.{leb}
 use lib.ListN.{length, getD, drop, length-drop}
 use lib.Seq.{getD-drop}
-use borrow.Author.Tests.{leb-true, eq-eqb, ne-eqb}
+use borrow.Author.Tests.{leb-true}
 use Rattle.format.specs.Rules.{Section}
-use Rattle.format.specs.Reading.{Outcome, fault, andThen, told, idOf, stated, headerChecks, reading, rowCount}
+use Rattle.format.specs.Reading.{Fault, Outcome, refused, found, fault, andThen, told, idOf, stated, headerChecks, reading, rowCount}
 use Rattle.format.specs.Writer.{writeAnswer, draftAfter}
+use Rattle.format.specs.declared.Answer.{Answer}
 use Rattle.format.specs.declared.Answer.the-variants.{Accepted, Refused}
 use Rattle.format.proofs.Accepted.{allowed}
+use Rattle.format.proofs.Finding.{and-split}
 use Rattle.format.proofs.Numbers.{number-one}
-use Rattle.format.proofs.Tests.{tests-passed, need-passed, then-found}
-use Rattle.drafts.specs.Adding.{Reads, Standing, appended, refusedAfter, unfit, sectionAdded, subsectionAdded, lastPlace}
-use Rattle.drafts.proofs.Outcomes.{told-refused, told-found, then-refused, need-failed, refused-written}
+use Rattle.format.proofs.Tests.{tests-passed, needed, followed, then-found}
+use Rattle.drafts.specs.Adding.{Reads, Standing, grown, appended, refusedAfter, ownFirst, unfit}
+use Rattle.drafts.proofs.Outcomes.{RefusedBy, told-refused, told-found, then-refused, refused-written, same-written}
 
 -- ---- the draft's own reading
 
@@ -60,50 +62,71 @@ unfolding unfit
 unfit-else d r e =
     refused-written (unfit d) d (record { cause = fault 24 (stated d) 0; is = then-found _ (r .1); number = refl; place = e }) .0
 
--- ---- a section
+-- ---- a refusal that gives way to the draft's own fault
 
-pub section-fault : {n p : ℕ} (d w : List ℕ) → Refused n p ≡ told rowCount (reading false d)
-    → (Refused n p ≡ writeAnswer (sectionAdded d w)) × (d ≡ draftAfter (sectionAdded d w) d)
-unfolding sectionAdded
-section-fault d w a = fault-first d _ a
+-- The draft does not read: its own fault is the answer.
+pub unread : {r : Answer} (d : List ℕ) (next : List Section → Outcome (List ℕ)) → (Reads d → ⊥) → r ≡ told rowCount (reading false d)
+    → (r ≡ writeAnswer (andThen (reading false d) next)) × (d ≡ draftAfter (andThen (reading false d) next) d)
+unfolding told andThen
+unread d next n a = go (reading false d) refl a
+  where
+    go : {r : Answer} (o : Outcome (List Section)) → reading false d ≡ o → r ≡ told rowCount o
+        → (r ≡ writeAnswer (andThen o next)) × (d ≡ draftAfter (andThen o next) d)
+    go (refused f) e q = (q, refl)
+    go (found ss) e q = absurd (n (ss, e))
 
-pub section-goes : (d w : List ℕ) → Reads d → appended d 0 w ≡ sectionAdded d w
-unfolding sectionAdded
-section-goes d w r = sym (then-found _ (r .1))
+-- Two refusals with one number and one place are told alike.
+told-alike : (o : Outcome (List Section)) (n p : ℕ) (f : Fault) → n ≡ f .number → p ≡ f .part
+    → (writeAnswer (andThen o (λ ss. refused (fault n p 0))) ≡ writeAnswer (andThen o (λ ss. refused f)))
+unfolding told andThen
+told-alike (refused g) n p f a b = refl
+told-alike (found ss) n p f a b = ap₂ Refused a b
 
--- ---- a subsection
+pub kept : (o : Outcome (List Section)) (f : Fault) (d : List ℕ) → draftAfter (andThen o (λ ss. refused f)) d ≡ d
+unfolding andThen
+kept (refused g) f d = refl
+kept (found ss) f d = refl
 
-pub subsection-fault : {n p : ℕ} (i : ℕ) (d w : List ℕ) → Refused n p ≡ told rowCount (reading false d)
-    → (Refused n p ≡ writeAnswer (subsectionAdded i d w)) × (d ≡ draftAfter (subsectionAdded i d w) d)
-unfolding subsectionAdded
-subsection-fault i d w a = fault-first d _ a
+-- A refused outcome, its draft as it was, and the answer that the draft's own fault or the refusal gives.
+pub own-refused : {n p : ℕ} {r : Answer} {e : List ℕ} (d : List ℕ) (o : Outcome (List ℕ)) → Refused n p ≡ writeAnswer o → e ≡ draftAfter o d
+    → r ≡ writeAnswer (refusedAfter e n p) → (r ≡ writeAnswer (ownFirst d o)) × (e ≡ draftAfter (ownFirst d o) d)
+unfolding ownFirst
+own-refused {n} {p} {r} {e} d o a s q = go (told-refused length o a)
+  where
+    go : RefusedBy o n p → (r ≡ writeAnswer (ownFirst d o)) × (e ≡ draftAfter (ownFirst d o) d)
+    go w =
+        let same : e ≡ d = s ∙ ap (λ (y : Outcome (List ℕ)). draftAfter y d) (w .is) in
+        let own : ownFirst d o ≡ andThen (reading false d) (λ ss. refused (w .cause)) = ap (ownFirst d) (w .is) in (
+          q ∙ ap (λ (y : List ℕ). writeAnswer (refusedAfter y n p)) same ∙ told-alike (reading false d) n p (w .cause) (w .number) (w .place) ∙ sym (ap writeAnswer own),
+          same ∙ sym (ap (λ (y : Outcome (List ℕ)). draftAfter y d) own ∙ kept (reading false d) (w .cause) d),
+        )
+
+-- What was found stays.
+pub own-found : {n : ℕ} {e : List ℕ} (d : List ℕ) (o : Outcome (List ℕ)) → Accepted n ≡ writeAnswer o → e ≡ draftAfter o d
+    → (Accepted n ≡ writeAnswer (ownFirst d o)) × (e ≡ draftAfter (ownFirst d o) d)
+unfolding ownFirst
+own-found d o a s =
+    let w = told-found length o a in
+    same-written d (w .1 ∙ sym (ap (ownFirst d) (w .1))) a s
+
+-- Where the draft reads whenever something is found, its own fault comes first in any case.
+pub own-first : (d : List ℕ) (o : Outcome (List ℕ)) → ((bs : List ℕ) → o ≡ found bs → Reads d)
+    → ownFirst d o ≡ andThen (reading false d) (λ ss. o)
+unfolding ownFirst
+own-first d (refused f) h = refl
+own-first d (found bs) h = sym (then-found _ (h bs refl .1))
+
+-- What appending has passed: there is room, and the longer draft reads.
+pub appended-passed : (d : List ℕ) (o : ℕ) (w bs : List ℕ) → appended d o w ≡ found bs
+    → (stated d + length w ≤ 3500) × ((ts : List Section) × (reading false (grown d o w) ≡ found ts))
+unfolding appended
+appended-passed d o w bs e =
+    let n = needed (leb (stated d + length w) 3500 && leb (stated d + length w) (length d)) _ _ bs e in
+    let f = followed (reading false (grown d o w)) _ bs (n .1) in
+    (leb-true (stated d + length w) 3500 (and-split (leb (stated d + length w) 3500) (leb (stated d + length w) (length d)) (n .0) .0), (f .0, f .1))
 
 -- the id of the section at a place is the byte there
-id-at : (d : List ℕ) (o : ℕ) → o < length d → idOf (drop o d) ≡ getD d o 0
+pub id-at : (d : List ℕ) (o : ℕ) → o < length d → idOf (drop o d) ≡ getD d o 0
 id-at d o h =
     let l = length-drop o d in
     number-one (drop o d) 0 (omega arith) ∙ getD-drop o d 0 0 ∙ ap (λ (j : ℕ). getD d j 0) (add-zero o)
-
--- 25: the last section has another id.
-pub other-section : {n o : ℕ} (i : ℕ) (d w : List ℕ) (r : Reads d) → o ≡ lastPlace 0 8 (r .0) → o < length d → n ≡ stated d
-    → (getD d o 0 ≡ i → ⊥)
-    → (Refused 25 n ≡ writeAnswer (subsectionAdded i d w)) × (d ≡ draftAfter (subsectionAdded i d w) d)
-unfolding subsectionAdded
-other-section {n} {o} i d w r p h e b =
-    let f : eqb (idOf (drop o d)) i ≡ false = ne-eqb (idOf (drop o d)) i (λ q. b (sym (id-at d o h) ∙ q)) in
-    refused-written (subsectionAdded i d w) d
-    (record {
-      cause = fault 25 (stated d) 0;
-      is = then-found _ (r .1) ∙ need-failed _ _ _ (ap (λ (j : ℕ). eqb (idOf (drop j d)) i) (sym p) ∙ f);
-      number = refl;
-      place = e;
-    })
-
-pub subsection-goes : {o : ℕ} (i : ℕ) (d w : List ℕ) (r : Reads d) → o ≡ lastPlace 0 8 (r .0) → o < length d → getD d o 0 ≡ i
-    → appended d o w ≡ subsectionAdded i d w
-unfolding subsectionAdded
-subsection-goes {o} i d w r p h b =
-    sym
-    (then-found _ (r .1)
-    ∙ need-passed _ _ _ (ap (λ (j : ℕ). eqb (idOf (drop j d)) i) (sym p) ∙ eq-eqb (idOf (drop o d)) i (id-at d o h ∙ b))
-    ∙ ap (λ (j : ℕ). appended d j w) (sym p))

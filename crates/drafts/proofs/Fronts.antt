@@ -43,10 +43,11 @@ front-reads d ps rs b h c l w =
     let hw = header-written d b (n .front) (h .1 .1 .0) (h .1 .1 .1 .1 .0) in
     let form : written i ps ≡ take (stated d) d = written-front i ps d (stated d) (n .least) (n .within) (hw .0) w in
     let long = ap length form ∙ length-take-le (stated d) d (n .within) in
-    let most = n .most in
-    (sectionsOf ps,
-    draft-of i ps d (drop (stated d) d) (choice-front i ps rs c) (lawful-front i ps rs l) (omega arith)
-    (sym (take-append-drop (stated d) d) ∙ ap (λ (y : List ℕ). y ++ drop (stated d) d) (sym form)) .read)
+    let most = n .most in (
+      sectionsOf ps,
+      draft-of i ps d (drop (stated d) d) (choice-front i ps rs c) (lawful-front i ps rs l) (omega arith)
+          (sym (take-append-drop (stated d) d) ∙ ap (λ (y : List ℕ). y ++ drop (stated d) d) (sym form)) .read,
+    )
 
 -- ---- the longer draft
 

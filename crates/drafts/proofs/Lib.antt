@@ -6,6 +6,7 @@ pub mod Restating
 pub mod Whole
 pub mod Fronts
 pub mod SubsectionFronts
+pub mod Adding
 pub mod Joining
 pub mod Additions
 pub mod Longer

@@ -187,7 +187,7 @@ shorter-reads d ts us l p z b h choice lawful whole head front sh e =
     (parts-then-section (partsOf us) (l .head) (sh .front) head ∙ sym (ap₂ (λ (y v : List ℕ). y ++ v) front (sh .bytes)) ∙ sym e)
 
 -- The id of a section is its first byte.
-section-id : (x : Bool) (l : Section) → GoodSection false x l → idOf (sectionBytes l) ≡ sectionId (l .head .kind)
+pub section-id : (x : Bool) (l : Section) → GoodSection false x l → idOf (sectionBytes l) ≡ sectionId (l .head .kind)
 section-id x l g =
     let k : Kind = l .head .kind in
     let small = id-small k in
@@ -206,14 +206,14 @@ last-front d w ts i m z p b h choice lawful e c id hs bz s fx small u =
     (shorter (external (idOf d)) i (c .last) z w m (c .good) same hs bz s fx small u (c .bytes)) e
 
 -- The bytes of the last section of the draft.
-record LastBytes (d : List ℕ) (o : ℕ) : Type 0 where
-  states : stated (drop o (take (stated d) d)) ≡ length (drop o (take (stated d) d))
-  same : stated (drop o d) ≡ stated (drop o (take (stated d) d))
-  id : idOf (drop o (take (stated d) d)) ≡ idOf (drop o d)
-  long : o + length (drop o (take (stated d) d)) ≡ stated d
-  four : 4 ≤ length (drop o (take (stated d) d))
+pub record LastBytes (d : List ℕ) (o : ℕ) : Type 0 where
+  pub states : stated (drop o (take (stated d) d)) ≡ length (drop o (take (stated d) d))
+  pub same : stated (drop o d) ≡ stated (drop o (take (stated d) d))
+  pub id : idOf (drop o (take (stated d) d)) ≡ idOf (drop o d)
+  pub long : o + length (drop o (take (stated d) d)) ≡ stated d
+  pub four : 4 ≤ length (drop o (take (stated d) d))
 
-last-bytes : (d : List ℕ) (o : ℕ) → stated d ≤ length d → LastAt (take (stated d) d) 8 o → LastBytes d o
+pub last-bytes : (d : List ℕ) (o : ℕ) → stated d ≤ length d → LastAt (take (stated d) d) 8 o → LastBytes d o
 last-bytes d o within la =
     let D : List ℕ = take (stated d) d in
     let z : List ℕ = drop o D in

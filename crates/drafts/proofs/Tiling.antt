@@ -3,11 +3,11 @@ use mathlib.Core.Path.{_≡_, refl, sym, ap, _∙_, subst}
 use mathlib.Core.List.{List, [], _∷_, _++_, append-assoc}
 use Prim.Native.Nat.{ℕ, _+_, _≤_, _<_}
 use native.Mathlib.Omega.{arith}
-use lib.ListN.{length, take, drop, length-append, length-drop, take-append-drop}
+use lib.ListN.{length, take, drop, drop-of-length-le, length-append, length-drop, take-append-drop}
 use lib.Seq.{take-at, drop-at, length-take-le}
 use Rattle.format.specs.Bytes.{All, number, bytesAt}
 use Rattle.format.specs.Reading.{stated}
-use Rattle.drafts.specs.Tiling.{TiledTo, here, next, Tiled}
+use Rattle.drafts.specs.Tiling.{TiledTo, here, next, Tiled, LastAt}
 
 -- ---- stated lengths
 
@@ -133,3 +133,12 @@ only-one {A} f (x ∷ xs) z h e p s = (x, go xs (h .1) rest, whole)
     go : (ys : List A) → All (λ y. States (f y)) ys → length (laid f ys) ≡ 0 → x ∷ ys ≡ x ∷ []
     go [] k q = refl
     go (y ∷ ys) k q = absurd (let m = length-append (f y) (laid f ys) in let n = k .0 .four in omega arith)
+
+-- Where the last part is known, all is tiled.
+pub tiled-last : {s : List ℕ} {first p : ℕ} → LastAt s first p → Tiled (drop first s)
+tiled-last {s} {first} {p} w =
+    let l = length-drop p s in
+    let e = w .ends in
+    let h = w .head in
+    let none : drop (stated (drop p s)) (drop p s) ≡ [] = drop-of-length-le (drop p s) {i = stated (drop p s)} (omega arith) in
+    subst (λ (z : List ℕ). TiledTo z (drop first s)) none (tiled-more (w .tiled) (omega arith) (omega arith))

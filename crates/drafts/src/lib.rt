@@ -4,10 +4,11 @@ pub mod heads; // heads.rt: how a part's bytes begin
 mod last; // last.rt: the last section of a draft
 
 ghost use mathlib.Core.Path.{_≡_};
-ghost use mathlib.Core.Bool.{true};
+ghost use mathlib.Core.Bool.{true, false};
 ghost use lib.ListN.{take};
 ghost use Rattle.format.specs.Bytes.{Bytes};
-ghost use Rattle.format.specs.Reading.{stated};
+ghost use Rattle.format.specs.Reading.{stated, headerChecks};
+ghost use Rattle.format.proofs.Tests.{Hold};
 ghost use Rattle.format.specs.Writer.{writeAnswer, draftAfter};
 ghost use Rattle.drafts.specs.Adding.{Standing, unfit, refusedAfter, ownFirst, appended, sectionAdded, subsectionAdded, holdsSubsections, fixedFields};
 ghost use Rattle.drafts.specs.Tiling.{LastAt};
@@ -41,6 +42,33 @@ pub fn not_fitting(draft: &[u8]) -> Answer
     }
 }
 
+// Puts a part behind the draft, whose own fault comes before any other refusal.
+fn append_or_fault(draft: &mut [u8], section: usize, part: &[u8]) -> Answer
+    requires { ⌜ Standing (now draft) section ⌝ }
+    ensures answer { λ r. ⌜ r ≡ writeAnswer (ownFirst (now (draft .entry)) (appended (now (draft .entry)) section (now (part .entry)))) ⌝ }
+    ensures draft { λ _. ⌜ now (draft .exit) ≡ draftAfter (ownFirst (now (draft .entry)) (appended (now (draft .entry)) section (now (part .entry)))) (now (draft .entry)) ⌝ }
+{
+    let a = append(draft, section, part);
+    match a {
+        Answer::Refused(number, place) => own_fault_or(draft, number, place),
+        Answer::Accepted(n) => Answer::Accepted(n),
+    }
+}
+
+// Adds the bytes of a section. Where the draft's sections end where it does, and the longer draft reads, the draft reads
+// too: then only the longer one is read.
+pub fn add_section(draft: &mut [u8], part: &[u8]) -> Answer
+    ensures answer { λ r. ⌜ r ≡ writeAnswer (sectionAdded (now (draft .entry)) (now (part .entry))) ⌝ }
+    ensures draft { λ _. ⌜ now (draft .exit) ≡ draftAfter (sectionAdded (now (draft .entry)) (now (part .entry))) (now (draft .entry)) ⌝ }
+    ensures bytes { λ _. ⌜ Bytes (now (draft .entry)) ⌝ }
+{
+    let last = last_section(draft);
+    if let Last::Broken = last {
+        return read_draft(draft);
+    }
+    append_or_fault(draft, 0, part)
+}
+
 // The bytes of the fixed fields of a section that has subsections.
 fn fixed_fields(id: u8) -> usize
     ensures { λ r. ⌜ r ≡ fixedFields id ⌝ }
@@ -51,3 +79,39 @@ fn fixed_fields(id: u8) -> usize
     10
 }
 
+// Adds the bytes of a subsection to the section at a place, the last one, where it has the given id. The same is true of
+// its subsections as of the draft's sections.
+fn add_behind(draft: &mut [u8], id: u8, place: usize, part: &[u8]) -> Answer
+    requires { ⌜ (holdsSubsections id ≡ true) × Hold (headerChecks false (now draft)) × LastAt (take (stated (now draft)) (now draft)) 8 place ⌝ }
+    ensures answer { λ r. ⌜ r ≡ writeAnswer (subsectionAdded id (now (draft .entry)) (now (part .entry))) ⌝ }
+    ensures draft { λ _. ⌜ now (draft .exit) ≡ draftAfter (subsectionAdded id (now (draft .entry)) (now (part .entry))) (now (draft .entry)) ⌝ }
+{
+    let n = two(draft, 2);
+    if draft[place] != id {
+        return own_fault_or(draft, 25, n as u32);
+    }
+    let first = place + fixed_fields(id);
+    if n < first {
+        return read_draft(draft);
+    }
+    let last = last_part(&draft[..n], first);
+    if let Last::Broken = last {
+        return read_draft(draft);
+    }
+    append_or_fault(draft, place, part)
+}
+
+// Adds the bytes of a subsection to the last section, which is to have the given id.
+pub fn add_subsection(draft: &mut [u8], id: u8, part: &[u8]) -> Answer
+    requires { ⌜ holdsSubsections id ≡ true ⌝ }
+    ensures answer { λ r. ⌜ r ≡ writeAnswer (subsectionAdded id (now (draft .entry)) (now (part .entry))) ⌝ }
+    ensures draft { λ _. ⌜ now (draft .exit) ≡ draftAfter (subsectionAdded id (now (draft .entry)) (now (part .entry))) (now (draft .entry)) ⌝ }
+    ensures bytes { λ _. ⌜ Bytes (now (draft .entry)) ⌝ }
+{
+    let last = last_section(draft);
+    match last {
+        Last::Broken => read_draft(draft),
+        Last::Empty => own_fault_or(draft, 25, 8),
+        Last::At(place) => add_behind(draft, id, place, part),
+    }
+}
