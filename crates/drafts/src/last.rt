@@ -35,6 +35,11 @@ pub(crate) fn last_part(s: &[u8], first: usize) -> Last
             return Last::Broken;
         }
         last = p;
+        if n == 20 {
+            // A bare rule. A step by a known number does not wait for the bytes: long drafts are passed twice as fast.
+            p += 20;
+            continue;
+        }
         p += n;
     }
     if p == first {
