@@ -16,7 +16,7 @@ use Rattle.format.specs.Parts.{Kind, sectionId, layout, Part, span, writeParts}
 use Rattle.format.specs.Rules.{external, Section}
 use Rattle.format.specs.Reading.{refused, found, fault, need, andThen, idOf, stated, headerChecks, reading}
 use Rattle.format.specs.Writer.{draftAfter}
-use Rattle.format.proofs.Tests.{Hold, need-passed}
+use Rattle.format.proofs.Tests.{Hold, need-passed, need-failed}
 use Rattle.format.proofs.Turns.{then-same}
 use Rattle.format.proofs.Unique.{size-any}
 use Rattle.format.proofs.Grouping.{Grouped, all-split, all-map}
@@ -31,7 +31,6 @@ use Rattle.drafts.specs.declared.last.Last.{Last}
 use Rattle.drafts.specs.declared.last.Last.the-variants.{At, Empty, Broken}
 use Rattle.drafts.proofs.last.Last.{the-type}
 use Rattle.drafts.proofs.Additions.{last-behind, id-known}
-use Rattle.drafts.proofs.Outcomes.{need-failed}
 use Rattle.drafts.proofs.Tiling.{laid, laid-tiled, tiled-last}
 use Rattle.drafts.proofs.Cutting.{Laid, last-read, sectionBytes, subBytes, subs-laid, subs-state, draft-laid}
 use Rattle.drafts.proofs.Calls.{kept, own-first, appended-passed, id-at}

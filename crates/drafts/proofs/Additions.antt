@@ -18,7 +18,7 @@ use Rattle.format.specs.Writer.{writeAnswer, draftAfter, longer, addition}
 use Rattle.format.specs.declared.Answer.{Answer}
 use Rattle.format.proofs.Finding.{sectionId-pos}
 use Rattle.format.proofs.Unique.{size-any}
-use Rattle.format.proofs.Tests.{need-passed}
+use Rattle.format.proofs.Tests.{need-passed, need-failed}
 use Rattle.format.proofs.Turns.{then-same}
 use Rattle.format.proofs.Grouping.{Grouped, all-split}
 use Rattle.format.proofs.Sound.{GoodSection, subs-of}
@@ -29,7 +29,7 @@ use Rattle.format.proofs.Changes.{restate, placeBehind, section-added, sub-adde
 use Rattle.format.proofs.Additions.{any-draft}
 use Rattle.drafts.specs.Adding.{lastPlace, grown, appended, unfit, sectionAdded, subsectionAdded}
 use Rattle.drafts.proofs.Sections.{id-small, stands-at, place-more}
-use Rattle.drafts.proofs.Outcomes.{need-failed, same-written}
+use Rattle.drafts.proofs.Outcomes.{same-written}
 use Rattle.drafts.proofs.Joining.{section-joins, sub-joins-last, sub-alone}
 
 -- ---- outcomes

@@ -17,9 +17,9 @@ use Rattle.format.specs.declared.Answer.the-variants.{Accepted, Refused}
 use Rattle.format.proofs.Accepted.{allowed}
 use Rattle.format.proofs.Finding.{and-split}
 use Rattle.format.proofs.Numbers.{number-one}
-use Rattle.format.proofs.Tests.{tests-passed, needed, followed, then-found}
+use Rattle.format.proofs.Tests.{tests-passed, needed, followed, then-found, then-refused}
 use Rattle.drafts.specs.Adding.{Reads, Standing, grown, appended, refusedAfter, ownFirst, unfit}
-use Rattle.drafts.proofs.Outcomes.{RefusedBy, told-refused, told-found, then-refused, refused-written, same-written}
+use Rattle.drafts.proofs.Outcomes.{RefusedBy, told-refused, told-found, refused-written, same-written}
 
 -- ---- the draft's own reading
 

@@ -12,7 +12,7 @@ use Rattle.format.specs.Reading.{Fault, Outcome, refused, found, fault, need, a
 use Rattle.format.specs.Writer.{writeAnswer, draftAfter}
 use Rattle.format.specs.declared.Answer.{Answer}
 use Rattle.format.specs.declared.Answer.the-variants.{Accepted, Refused}
-use Rattle.format.proofs.Tests.{need-passed, then-found}
+use Rattle.format.proofs.Tests.{need-passed, need-failed, then-found, then-refused}
 use Rattle.storing.proofs.Stores.{sets-front}
 use Rattle.drafts.specs.Adding.{grown, appended}
 
@@ -38,16 +38,6 @@ pub told-found : {A : Type 0} {n : ℕ} (count : A → ℕ) (o : Outcome A) → 
 unfolding told
 told-found count (refused f) e = absurd (let y : _≡_ {A = ℕ} 0 1 = cc in omega arith)
 told-found count (found a) e = (a, refl)
-
--- A refusal goes straight out.
-pub then-refused : {A B : Type 0} {o : Outcome A} (next : A → Outcome B) {f : Fault} → o ≡ refused f → andThen o next ≡ refused f
-unfolding andThen
-then-refused next e = rw e
-
--- A failed test refuses.
-pub need-failed : {A : Type 0} (b : Bool) (f : Fault) (rest : Outcome A) → b ≡ false → need b f rest ≡ refused f
-unfolding need
-need-failed b f rest e = rw e
 
 -- ---- the answer of a call that writes, and the lent draft
 

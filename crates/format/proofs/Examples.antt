@@ -8,15 +8,15 @@ use Rattle.format.specs.Legal.{Legal}
 use Rattle.format.specs.Table.{rows}
 use Rattle.format.specs.Lines.{text, firstLine, rowLine}
 use Rattle.format.specs.declared.Row.{Row}
-use Rattle.format.specs.Bytes.{number, bytesAt, allZero, sameBytes}
+use Rattle.format.specs.Bytes.{All, number, bytesAt, allZero, sameBytes}
 use Rattle.format.specs.Forms.{ruleIdForm, dateExists}
 use Rattle.format.specs.Reading.{answer, told, reading, sections, section, sectionRest, closed, subsections, subsection, tested, need, andThen}
 use Rattle.format.proofs.Numbers.{bytes-zeros}
-use Rattle.format.specs.Examples.{tokenT, partsT, AllHold, starred}
+use Rattle.format.specs.Examples.{tokenT, partsT, Holds, starred}
 
-pub starred-hold : AllHold starred
+pub starred-hold : All Holds starred
 unfolding answer told reading sections section sectionRest closed subsections subsection tested need andThen number bytesAt allZero sameBytes dateExists ruleIdForm
-starred-hold = (refl, (refl, (refl, (refl, (refl, (refl, (refl, (refl, (refl, (refl, (refl, tt)))))))))))
+starred-hold = (refl, (refl, (refl, (refl, (refl, (λ b. refl, (refl, (refl, (refl, (refl, (refl, tt)))))))))))
 
 -- the lines of rows, numbered from n on
 abbrev rowLines : ℕ → List Row → List ℕ

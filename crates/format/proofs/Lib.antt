@@ -13,6 +13,7 @@ pub mod Grouping
 pub mod Sound
 pub mod Complete
 pub mod Header
+pub mod Refusing
 pub mod Flat
 pub mod Sizes
 pub mod Accepted
@@ -21,6 +22,7 @@ pub mod Beginnings
 pub mod Writing
 pub mod Changes
 pub mod Additions
+pub mod Finishing
 pub mod Numbering
 pub mod Rows
 pub mod Elements

@@ -1,22 +1,24 @@
 -- The theorems about the definitions, each beside the sentence that it answers; the proofs stand in the files named by
 -- the `use` lines. Lists of numbers below 256 (`Bytes`) are lists of bytes. Assumes nothing.
 use mathlib.Core.Path.{_≡_, refl, sym, subst}
-use mathlib.Core.Bool.{true, false}
+use mathlib.Core.Bool.{Bool, true, false, _&&_}
 use mathlib.Core.List.{List, [], _∷_, _++_}
 use mathlib.Core.Logic.{_↔_, _⊎_}
+use mathlib.Core.Option.{some}
 use Prim.Native.Nat.{ℕ, suc, _+_, _*_, _≤_, _<_}
-use lib.ListN.{length, take, drop}
+use lib.Dec.{leb}
+use lib.ListN.{length, take, drop, getElem?}
 use Rattle.format.specs.Bytes.{All, Bytes, bytesAt}
-use Rattle.format.specs.Layout.{write, fieldsIn}
-use Rattle.format.specs.Parts.{rule, isSubsection, layout, Part, size, written, writeParts, WrittenForm}
+use Rattle.format.specs.Layout.{Fields, write, fits, Slot, slotBytes, fieldsIn}
+use Rattle.format.specs.Parts.{Kind, rule, isSubsection, layout, Part, size, written, writeParts, joins, WrittenForm}
 use Rattle.format.specs.Rules.{Section, ofKind}
 use Rattle.format.specs.Legal.{Lawful, Complete, Legal, ruleCount, rulesOfAll, joined}
-use Rattle.format.specs.Reading.{refused, found, Fault, stated, reading, answer}
+use Rattle.format.specs.Reading.{Fault, fault, refused, found, stated, reading, partsOf, answer}
 use Rattle.format.specs.Table.{Placed, placed, rows, columns, tableOf, tableAnswer, tableAfter}
 use Rattle.format.specs.Views.{view, viewAnswer, stepAt}
 use Rattle.format.specs.Writer.{draftAfter, start, addition, finish}
 use Rattle.format.specs.Claims.{IsRow, Tiles, subsOf, ruleRows, slotsOf, viewsFrom, walk, walkPlace, additions, restate, placeBehind}
-use Rattle.format.specs.Examples.{tokenT, AllHold, starred}
+use Rattle.format.specs.Examples.{tokenT, Holds, starred}
 use Rattle.format.specs.declared.Answer.the-variants.{Accepted, Refused}
 use Rattle.format.specs.declared.Step.the-variants.{End, Stopped}
 use Rattle.format.proofs.Accepted as Accepting
@@ -29,12 +31,15 @@ use Rattle.format.proofs.Viewing as Viewing
 use Rattle.format.proofs.Walking as Walking
 use Rattle.format.proofs.Writing as Writing
 use Rattle.format.proofs.Additions as Additions
+use Rattle.format.proofs.Finishing as Finishing
+use Rattle.format.proofs.Numbering as Numbering
+use Rattle.format.proofs.Refusing as Refusing
 use Rattle.format.proofs.Examples as Examples
 
 -- ---- demand 2, of the definitions
 
--- "A buffer is accepted exactly when it is a legal token as 01 defines it [..]; the rows [..] are those of its sections and
--- subsections": the answer is 0 with n exactly when the bytes are a legal token with n rows.
+-- "A buffer is accepted exactly when it is a legal token as 01 defines it": the answer is 0 with n exactly when the bytes
+-- are a legal token with n rows.
 pub accepted-exactly-when-legal : (bs : List ℕ) (n : ℕ) → Bytes bs
     → (answer bs ≡ Accepted n) ↔ ((l : Legal bs) × (n ≡ length (rows (l .parts))))
 accepted-exactly-when-legal bs n b = Tables.accepted-exactly bs n b
@@ -50,12 +55,12 @@ pub table-holds-rows : (bs t : List ℕ) (l : Legal bs) → columns * length (ro
 table-holds-rows bs t l h = Tables.table-holds bs t l h
 
 -- "23 is given exactly when the token is legal and four times the rows exceeds the table; its second number is the rows
--- needed", and the table holds what it held.
+-- needed."
 pub no-room : (bs t : List ℕ) (n : ℕ) → Bytes bs
     → (tableAnswer bs t ≡ Refused 23 n) ↔ ((l : Legal bs) × (n ≡ length (rows (l .parts))) × (length t < columns * n))
 no-room bs t n b = Tables.no-room bs t n b
 
--- A refused reading leaves the table as it was.
+-- "A refusal changes nothing lent": a refused reading, 23 too, leaves the table as it was.
 pub table-kept : (bs t : List ℕ) (n p : ℕ) → tableAnswer bs t ≡ Refused n p → tableAfter bs t ≡ t
 table-kept bs t n p e = Tables.table-kept bs t n p e
 
@@ -75,6 +80,13 @@ legal-not-refused bs l n p e = Tables.legal-not-refused bs l n p e
 -- "Any bytes may come in, and every call ends with an answer": an acceptance, or a refusal with a number from 1 to 21.
 pub every-answer : (bs : List ℕ) → ((n : ℕ) × (answer bs ≡ Accepted n)) ⊎ ((n : ℕ) × (p : ℕ) × (answer bs ≡ Refused n p) × (1 ≤ n) × (n ≤ 21))
 every-answer bs = Tables.every-answer bs
+
+-- The same of drafts: a refusal's number is from 1 to 21, and its place is within the bytes.
+pub every-refusal : (full : Bool) (bs : List ℕ) (f : Fault) → reading full bs ≡ refused f
+    → (1 ≤ f .number) × (f .number ≤ 21) × (f .part ≤ length bs)
+every-refusal full bs f e =
+    let n = Numbering.fault-number full bs f e in
+    (n .0, n .1, Numbering.refusal-place full bs f e .1)
 
 -- "A legal token never has more than 300 rows; that is to be shown."
 pub at-most-300-rows : (bs : List ℕ) (l : Legal bs) → length (rows (l .parts)) ≤ 300
@@ -120,8 +132,15 @@ count-by-rows bs l = Runs.count-of-rows 8 0 0 (l .parts)
 
 -- ---- views and the walk
 
--- "A view is the part of the caller's own bytes that a field occupies": cutting a row by its layout gives the fields of
--- the part that it came from.
+-- "A view is the part of the caller's own bytes that a field occupies, asked for by row and field number. Its partner
+-- question gives 0": field number j of a row's layout has its slot's bytes in the token as its view.
+pub view-of-a-field : (bs : List ℕ) (l : Legal bs) (k j : ℕ) (x : Placed) → IsRow bs l k x → j < length (layout (x .part .kind))
+    → (s : Slot) × (getElem? (slotsOf bs x) j ≡ some s)
+    × (view bs k j ≡ slotBytes (drop (x .row .offset) bs) s)
+    × (viewAnswer bs k j ≡ Accepted 0)
+view-of-a-field bs l k j x r h = Viewing.view-field bs l k j x r h
+
+-- Cutting a row by its layout gives the fields of the part that it came from.
 pub row-gives-its-fields : (bs : List ℕ) (l : Legal bs) (k : ℕ) (x : Placed) → IsRow bs l k x
     → fieldsIn (drop (x .row .offset) bs) (slotsOf bs x) ≡ x .part .fields
 row-gives-its-fields bs l k x r = Viewing.cut-row bs l k x r
@@ -179,6 +198,32 @@ pub finished-exactly-when-legal : (i : ℕ) (ps : List Part) (d bs e : List ℕ)
 finished-exactly-when-legal i ps d bs e n h b s a =
     Writing.finish-exactly i ps e (Writing.run-read ps i [] (draftAfter (found bs) d) e (Writing.started i d bs h s) b a) n
 
+-- Of any lent draft, whatever was done with it: what finishing accepts is a legal token with the length given back,
+pub finished-is-legal : (d : List ℕ) (n : ℕ) → Bytes d → finish d ≡ Accepted n → Legal (take n d)
+finished-is-legal d n b e = Finishing.finish-legal d n b e
+
+-- and "Finishing gives the draft's own fault, else the reading's 20".
+pub finish-refuses-with-20 : (d : List ℕ) (n p : ℕ) → Bytes d → finish d ≡ Refused n p
+    → ((f : Fault) × (reading false d ≡ refused f) × (n ≡ f .number) × (p ≡ f .part)) ⊎ ((ss : List Section) × (reading false d ≡ found ss) × (n ≡ 20))
+finish-refuses-with-20 d n p b e = Finishing.finish-refuses d n p b e
+
+-- "Its first L bytes [..] read as a token under all rules but 20": a draft's own fault is never 20.
+pub draft-never-20 : (d : List ℕ) (f : Fault) → reading false d ≡ refused f → f .number ≡ 20 → ⊥
+draft-never-20 d f e = Numbering.draft-not-20 d f e
+
+-- "Refusals in order: the draft's own fault; 24; 25; 23".
+pub own-fault-first : (k : Kind) (fs : Fields) (d : List ℕ) (f : Fault) → reading false d ≡ refused f → addition k fs d ≡ refused f
+own-fault-first k fs d f e = Refusing.own-fault-first k fs d f e
+
+pub then-24-25-23 : (k : Kind) (fs : Fields) (d : List ℕ) (ss : List Section) → reading false d ≡ found ss
+    → (fits [] (layout k) fs ≡ false → addition k fs d ≡ refused (fault 24 (stated d) 0))
+    × (fits [] (layout k) fs ≡ true → joins 0 (partsOf ss ++ record { kind = k; fields = fs } ∷ []) ≡ false
+    → addition k fs d ≡ refused (fault 25 (stated d) 0))
+    × (fits [] (layout k) fs ≡ true → joins 0 (partsOf ss ++ record { kind = k; fields = fs } ∷ []) ≡ true
+    → (leb (stated d + size (record { kind = k; fields = fs })) 3500 && leb (stated d + size (record { kind = k; fields = fs })) (length d)) ≡ false
+    → addition k fs d ≡ refused (fault 23 (stated d) 0))
+then-24-25-23 k fs d ss e = (Refusing.lengths-first k fs d ss e, Refusing.joining-next k fs d ss e, Refusing.room-last k fs d ss e)
+
 -- "Adding the parts of any legal token in their order, to a draft newly started with its identifier and with room, gives
 -- back its very bytes."
 pub legal-token-rebuilt : (bs : List ℕ) (l : Legal bs) (d : List ℕ) → length bs ≤ length d
@@ -216,7 +261,7 @@ added-subsection-changes d p bs b f e = Additions.sub-changes d p bs b f e
 -- ---- examples
 
 -- "The starred examples are shown of the definitions, gathered into a single table under one claim".
-pub starred-examples : AllHold starred
+pub starred-examples : All Holds starred
 starred-examples = Examples.starred-hold
 
 -- "a reader that refuses everything (a legal token exists)".

@@ -5,9 +5,9 @@ use mathlib.Core.List.{List, [], _∷_, _++_}
 use mathlib.Core.Option.{Option, none, some}
 use Prim.Native.Nat.{ℕ, zero, suc, _+_, _-_, _≤_, _<_}
 use native.Mathlib.Omega.{arith}
-use lib.Dec.{leb}
+use lib.Dec.{eqb, leb}
 use lib.ListN.{length, take, drop, length-take, length-drop}
-use borrow.Author.Tests.{eqb-true, leb-true}
+use borrow.Author.Tests.{eqb-true, eqb-false, leb-true, not-true}
 use Rattle.format.specs.Bytes.{number, bytesAt}
 use Rattle.format.specs.Layout.{least}
 use Rattle.format.specs.Parts.{Kind, information, tokenParameters, layout, sectionKind, subsectionKind}
@@ -26,47 +26,54 @@ use Rattle.format.proofs.Accepted.{Allowed, allowed}
 
 -- ---- outcomes
 
--- The refusal has a number of the table, and its part begins at place e at the latest.
-pub record Listed (e : ℕ) (f : Fault) : Type 0 where
+-- The refusal has a number of the table, that of a draft not 20, and its part begins at place e at the latest.
+pub record Listed (full : Bool) (e : ℕ) (f : Fault) : Type 0 where
   pub first : 1 ≤ f .number
   pub last : f .number ≤ 21
   pub within : f .part ≤ e
+  pub complete : full ≡ false → f .number ≡ 20 → ⊥
 
 -- A refusal is listed, and what is found has the property Q.
-abbrev Comes : {A : Type 0} → ℕ → (A → Type 0) → Outcome A → Type 0
-Comes e Q (refused f) = Listed e f
-Comes e Q (found a) = Q a
+abbrev Comes : {A : Type 0} → Bool → ℕ → (A → Type 0) → Outcome A → Type 0
+Comes full e Q (refused f) = Listed full e f
+Comes full e Q (found a) = Q a
 
 -- A test whose refusal is listed goes on to the rest.
-need-comes : {A : Type 0} (e : ℕ) (Q : A → Type 0) (b : Bool) (f : Fault) (rest : Outcome A) → Listed e f
-    → (b ≡ true → Comes e Q rest) → Comes e Q (need b f rest)
+need-comes : {A : Type 0} (full : Bool) (e : ℕ) (Q : A → Type 0) (b : Bool) (f : Fault) (rest : Outcome A) → (b ≡ false → Listed full e f)
+    → (b ≡ true → Comes full e Q rest) → Comes full e Q (need b f rest)
 unfolding need
-need-comes e Q true f rest l h = h refl
-need-comes e Q false f rest l h = l
+need-comes full e Q true f rest l h = h refl
+need-comes full e Q false f rest l h = l refl
 
 -- What is found is handed on with its property.
-then-comes : {A B : Type 0} (e : ℕ) (Q : A → Type 0) (R : B → Type 0) (o : Outcome A) (next : A → Outcome B)
-    → Comes e Q o → ((a : A) → Q a → Comes e R (next a)) → Comes e R (andThen o next)
+then-comes : {A B : Type 0} (full : Bool) (e : ℕ) (Q : A → Type 0) (R : B → Type 0) (o : Outcome A) (next : A → Outcome B)
+    → Comes full e Q o → ((a : A) → Q a → Comes full e R (next a)) → Comes full e R (andThen o next)
 unfolding andThen
-then-comes e Q R (refused f) next h k = h
-then-comes e Q R (found a) next h k = k a h
+then-comes full e Q R (refused f) next h k = h
+then-comes full e Q R (found a) next h k = k a h
 
--- The refusals of the tests are from 1 to 21.
+-- The refusals of the tests are from 1 to 21, and not 20.
 abbrev numbered : List Check → Bool
 numbered [] = true
-numbered (c ∷ cs) = leb 1 (c .refusal) && (leb (c .refusal) 21 && numbered cs)
+numbered (c ∷ cs) = leb 1 (c .refusal) && (leb (c .refusal) 21 && (not (eqb (c .refusal) 20) && numbered cs))
 
 -- Tests whose refusals have numbers go on to the rest.
-tests-come : {A : Type 0} (e : ℕ) (Q : A → Type 0) (at : ℕ) (cs : List Check) (rest : Outcome A) → at ≤ e
-    → numbered cs ≡ true → (Hold cs → Comes e Q rest) → Comes e Q (tested at cs rest)
+tests-come : {A : Type 0} (full : Bool) (e : ℕ) (Q : A → Type 0) (at : ℕ) (cs : List Check) (rest : Outcome A) → at ≤ e
+    → numbered cs ≡ true → (Hold cs → Comes full e Q rest) → Comes full e Q (tested at cs rest)
 unfolding tested
-tests-come e Q at [] rest h n k = k tt
-tests-come e Q at (c ∷ cs) rest h n k =
+tests-come full e Q at [] rest h n k = k tt
+tests-come full e Q at (c ∷ cs) rest h n k =
     let s = and-split (leb 1 (c .refusal)) _ n in
-    let t = and-split (leb (c .refusal) 21) (numbered cs) (s .1) in
-    need-comes e Q (c .holds) (fault (c .refusal) at (c .field)) _
-    (record { first = leb-true 1 (c .refusal) (s .0); last = leb-true (c .refusal) 21 (t .0); within = h })
-    (λ w. tests-come e Q at cs rest h (t .1) (λ v. k (w, v)))
+    let t = and-split (leb (c .refusal) 21) _ (s .1) in
+    let u = and-split (not (eqb (c .refusal) 20)) (numbered cs) (t .1) in
+    need-comes full e Q (c .holds) (fault (c .refusal) at (c .field)) _
+    (λ w. record {
+      first = leb-true 1 (c .refusal) (s .0);
+      last = leb-true (c .refusal) 21 (t .0);
+      within = h;
+      complete = λ q. eqb-false (c .refusal) 20 (not-true (eqb (c .refusal) 20) (u .0));
+    })
+    (λ w. tests-come full e Q at cs rest h (u .1) (λ v. k (w, v)))
 
 -- The tests of a subsection of every kind have numbers.
 subsection-numbered : (x : Bool) (seen : Bool) (n : ℕ) (r : List ℕ) (k : Kind)
@@ -78,6 +85,11 @@ section-numbered : (x seen repeated : Bool) (r : List ℕ) (k : Kind)
     → numbered (sectionChecks x k seen repeated r) ≡ true
 section-numbered x seen repeated r k = every-kind (λ j. numbered (sectionChecks x j seen repeated r)) refl k
 
+-- What is asked of a token only is no fault of a draft.
+not-asked : (full b : Bool) → full ≡ false → (not full || b) ≡ false → ⊥
+not-asked false b q e = let z : _≡_ {A = ℕ} 0 1 = cc in omega arith
+not-asked true b q e = let z : _≡_ {A = ℕ} 0 1 = cc in omega arith
+
 -- ---- subsections
 
 -- The subsection found has at least one byte and ends within the n bytes that are left.
@@ -85,11 +97,12 @@ abbrev Ends : ℕ → List ℕ → Part → Type 0
 Ends n r p = (1 ≤ stated r) × (stated r ≤ n) × (size p ≤ stated r)
 
 -- A subsection comes to a listed refusal or ends within what is left.
-subsection-comes : (e : ℕ) (x : Bool) (o : Kind) (before : List Part) (at n : ℕ) (r : List ℕ) → at ≤ e
-    → Comes e (Ends n r) (subsection x o before at n r)
+subsection-comes : (full : Bool) (e : ℕ) (x : Bool) (o : Kind) (before : List Part) (at n : ℕ) (r : List ℕ) → at ≤ e
+    → Comes full e (Ends n r) (subsection x o before at n r)
 unfolding subsection
-subsection-comes e x o before at n r h =
-    need-comes e (Ends n r) (leb 4 n) (fault 12 at 0) _ (record { first = omega arith; last = omega arith; within = h })
+subsection-comes full e x o before at n r h =
+    need-comes full e (Ends n r) (leb 4 n) (fault 12 at 0) _
+    (λ v. record { first = omega arith; last = omega arith; within = h; complete = λ q z. omega arith })
     (λ w. go (subsectionKind o (number (bytesAt r 0 2))))
   where
     passed : (k : Kind) → Hold (subsectionChecks x k (has k before) n r) → Ends n r (partIn k r)
@@ -103,30 +116,30 @@ subsection-comes e x o before at n r h =
         (omega arith, b, omega arith)
 
     go : (m : Option Kind)
-        → Comes e (Ends n r) (elim m as (λ k. Outcome Part) [
+        → Comes full e (Ends n r) (elim m as (λ k. Outcome Part) [
           | none ↦ refused (fault 13 at 0)
           | some k ↦ tested at (subsectionChecks x k (has k before) n r) (found (partIn k r))
         ])
-    go none = record { first = omega arith; last = omega arith; within = h }
+    go none = record { first = omega arith; last = omega arith; within = h; complete = λ q z. omega arith }
     go (some k) =
-        tests-come e (Ends n r) at _ (found (partIn k r)) h (subsection-numbered x (has k before) n r k) (passed k)
+        tests-come full e (Ends n r) at _ (found (partIn k r)) h (subsection-numbered x (has k before) n r k) (passed k)
 
 -- The subsections come to a listed refusal or lie within what is left, where the turns are more than the bytes.
-subsections-come : (e first d : ℕ) (x : Bool) (o : Kind) (before : List Part) (at n : ℕ) (r : List ℕ) → n < d
+subsections-come : (full : Bool) (e first d : ℕ) (x : Bool) (o : Kind) (before : List Part) (at n : ℕ) (r : List ℕ) → n < d
     → at + n ≤ e → first + sizes before ≤ at
-    → Comes e (λ (us : List Part). first + sizes us ≤ e) (subsections d x o before at n r)
+    → Comes full e (λ (us : List Part). first + sizes us ≤ e) (subsections d x o before at n r)
 unfolding subsections
-subsections-come e first zero x o before at n r t h k = absurd (omega arith)
-subsections-come e first (suc d) x o before at zero r t h k = omega arith
-subsections-come e first (suc d) x o before at (suc m) r t h k =
-    then-comes e (Ends (suc m) r) (λ (us : List Part). first + sizes us ≤ e) (subsection x o before at (suc m) r) _
-    (subsection-comes e x o before at (suc m) r (omega arith))
+subsections-come full e first zero x o before at n r t h k = absurd (omega arith)
+subsections-come full e first (suc d) x o before at zero r t h k = omega arith
+subsections-come full e first (suc d) x o before at (suc m) r t h k =
+    then-comes full e (Ends (suc m) r) (λ (us : List Part). first + sizes us ≤ e) (subsection x o before at (suc m) r) _
+    (subsection-comes full e x o before at (suc m) r (omega arith))
     (λ p q.
     let s = sizes-last before p in
     let a = q .0 in
     let b = q .1 in
     let c = q .2 in
-    subsections-come e first d x o (before ++ p ∷ []) (at + stated r) (suc m - stated r) (drop (stated r) r)
+    subsections-come full e first d x o (before ++ p ∷ []) (at + stated r) (suc m - stated r) (drop (stated r) r)
     (omega arith) (omega arith) (omega arith))
 
 -- ---- sections
@@ -137,34 +150,34 @@ Inside r s = (1 ≤ stated r) × (stated r ≤ length r)
 
 -- The rest of a section comes to a listed refusal or to the section.
 rest-comes : (e : ℕ) (full x : Bool) (k : Kind) (at : ℕ) (r : List ℕ) → at + stated r ≤ e → madeLength k r ≤ stated r
-    → Inside r (record { head = partIn k r; subs = [] }) → Comes e (Inside r) (sectionRest full x k at r)
+    → Inside r (record { head = partIn k r; subs = [] }) → Comes full e (Inside r) (sectionRest full x k at r)
 unfolding sectionRest closed
 rest-comes e full x k at r h m w =
     let n : ℕ = madeLength k r in
     let first : ℕ = at + n in
-    then-comes e (λ (us : List Part). first + sizes us ≤ e) (Inside r)
+    then-comes full e (λ (us : List Part). first + sizes us ≤ e) (Inside r)
     (subsections (suc (stated r)) x k [] first (stated r - n) (drop n r)) _
-    (subsections-come e first (suc (stated r)) x k [] first (stated r - n) (drop n r) (omega arith) (omega arith)
+    (subsections-come full e first (suc (stated r)) x k [] first (stated r - n) (drop n r) (omega arith) (omega arith)
     (omega arith))
     (λ us q.
     let p = place-le tokenParameters first us in
-    need-comes e (Inside r) (maskCovers us) (fault 18 (placeOf tokenParameters first us) 5) _
-    (record { first = omega arith; last = omega arith; within = omega arith })
-    (λ v. need-comes e (Inside r) (not full || hasRequired (record { head = partIn k r; subs = us })) (fault 20 at 0) _
-    (record { first = omega arith; last = omega arith; within = omega arith })
+    need-comes full e (Inside r) (maskCovers us) (fault 18 (placeOf tokenParameters first us) 5) _
+    (λ v. record { first = omega arith; last = omega arith; within = omega arith; complete = λ z y. omega arith })
+    (λ v. need-comes full e (Inside r) (not full || hasRequired (record { head = partIn k r; subs = us })) (fault 20 at 0) _
+    (λ y. record { first = omega arith; last = omega arith; within = omega arith; complete = λ z u. not-asked full _ z y })
     (λ y. w)))
 
 -- A section comes to a listed refusal or ends within the bytes.
 section-comes : (e : ℕ) (full x : Bool) (before : List Section) (at : ℕ) (r : List ℕ) → at + length r ≤ e
-    → Comes e (Inside r) (section full x before at r)
+    → Comes full e (Inside r) (section full x before at r)
 unfolding section
 section-comes e full x before at r h =
-    need-comes e (Inside r) (leb 4 (length r)) (fault 6 at 0) _
-    (record { first = omega arith; last = omega arith; within = omega arith })
+    need-comes full e (Inside r) (leb 4 (length r)) (fault 6 at 0) _
+    (λ v. record { first = omega arith; last = omega arith; within = omega arith; complete = λ q z. omega arith })
     (λ w. go (sectionKind (idOf r)))
   where
     rest : (k : Kind) → Hold (sectionChecks x k (kindBefore k before) (ruleBefore (partIn k r) before) r)
-        → Comes e (Inside r) (sectionRest full x k at r)
+        → Comes full e (Inside r) (sectionRest full x k at r)
     rest k c =
         let s = and-split (leb (least (layout k)) (stated r)) (leb (stated r) (length r)) (c .1 .0) in
         let a = leb-true (least (layout k)) (stated r) (s .0) in
@@ -173,15 +186,15 @@ section-comes e full x before at r h =
         rest-comes e full x k at r (omega arith) (made-le k r a (c .1 .1 .1 .0)) (omega arith, b)
 
     go : (m : Option Kind)
-        → Comes e (Inside r) (elim m as (λ k. Outcome Section) [
+        → Comes full e (Inside r) (elim m as (λ k. Outcome Section) [
           | none ↦ refused (fault 7 at 0)
           | some k ↦
               tested at (sectionChecks x k (kindBefore k before) (ruleBefore (partIn k r) before) r)
               (sectionRest full x k at r)
         ])
-    go none = record { first = omega arith; last = omega arith; within = omega arith }
+    go none = record { first = omega arith; last = omega arith; within = omega arith; complete = λ q z. omega arith }
     go (some k) =
-        tests-come e (Inside r) at _ (sectionRest full x k at r) (omega arith)
+        tests-come full e (Inside r) at _ (sectionRest full x k at r) (omega arith)
         (section-numbered x (kindBefore k before) (ruleBefore (partIn k r) before) r k) (rest k)
 
 -- Nothing more is asked of the sections found.
@@ -190,15 +203,15 @@ Anything ss = Unit {0}
 
 -- The sections come to a listed refusal, where the turns are more than the bytes.
 sections-come : (e d : ℕ) (full x : Bool) (before : List Section) (at : ℕ) (r : List ℕ) → length r < d
-    → at + length r ≤ e → Comes e Anything (sections d full x before at r)
+    → at + length r ≤ e → Comes full e Anything (sections d full x before at r)
 unfolding sections
 sections-come e zero full x before at r t h = absurd (omega arith)
 sections-come e (suc d) full x before at [] t h =
-    need-comes e Anything (not full || kindBefore information before) (fault 20 at 0) (found before)
-    (record { first = omega arith; last = omega arith; within = omega arith }) (λ w. tt)
+    need-comes full e Anything (not full || kindBefore information before) (fault 20 at 0) (found before)
+    (λ v. record { first = omega arith; last = omega arith; within = omega arith; complete = λ z u. not-asked full _ z v }) (λ w. tt)
 sections-come e (suc d) full x before at (b ∷ bs) t h =
     let r : List ℕ = b ∷ bs in
-    then-comes e (Inside r) Anything (section full x before at r) _ (section-comes e full x before at r h)
+    then-comes full e (Inside r) Anything (section full x before at r) _ (section-comes e full x before at r h)
     (λ s q.
     let l = length-drop (stated r) r in
     let a = q .0 in
@@ -209,10 +222,10 @@ sections-come e (suc d) full x before at (b ∷ bs) t h =
 
 -- The reading comes to a listed refusal, where the bytes that the header states end at place e at the latest.
 reading-comes : (e : ℕ) (full : Bool) (bs : List ℕ) → (Allowed full bs → stated bs ≤ e)
-    → Comes e Anything (reading full bs)
+    → Comes full e Anything (reading full bs)
 unfolding reading
 reading-comes e full bs h =
-    tests-come e Anything 0 (headerChecks full bs) _ (omega arith) refl
+    tests-come full e Anything 0 (headerChecks full bs) _ (omega arith) refl
     (λ c.
     let a = allowed full bs (leb-true 8 (length bs) (c .0)) (c .1 .1 .1 .0) in
     let eight = a .eight in
@@ -224,8 +237,8 @@ reading-comes e full bs h =
 
 -- A refusal of the reading is listed, where the bytes that the header states end at place e at the latest.
 reading-listed : (e : ℕ) (full : Bool) (bs : List ℕ) (f : Fault) → (Allowed full bs → stated bs ≤ e)
-    → reading full bs ≡ refused f → Listed e f
-reading-listed e full bs f h q = subst (Comes e Anything) q (reading-comes e full bs h)
+    → reading full bs ≡ refused f → Listed full e f
+reading-listed e full bs f h q = subst (Comes full e Anything) q (reading-comes e full bs h)
 
 -- Every refusal of a token and of a draft has a number from 1 to 21.
 pub fault-number : (full : Bool) (bs : List ℕ) (f : Fault) → reading full bs ≡ refused f
@@ -233,6 +246,10 @@ pub fault-number : (full : Bool) (bs : List ℕ) (f : Fault) → reading full bs
 fault-number full bs f q =
     let l = reading-listed (stated bs) full bs f (λ a. omega arith) q in
     (l .first, l .last)
+
+-- A draft is never refused with 20.
+pub draft-not-20 : (d : List ℕ) (f : Fault) → reading false d ≡ refused f → f .number ≡ 20 → ⊥
+draft-not-20 d f q = reading-listed (stated d) false d f (λ a. omega arith) q .complete refl
 
 -- The part at fault begins at the latest where the reading ends, which is within the bytes and 3,500 at most.
 pub refusal-place : (full : Bool) (bs : List ℕ) (f : Fault) → reading full bs ≡ refused f

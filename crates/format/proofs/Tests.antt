@@ -27,6 +27,11 @@ pub need-passed : {A : Type 0} (b : Bool) (f : Fault) (rest : Outcome A) → b �
 unfolding need
 need-passed b f rest e = rw e
 
+-- A test that fails refuses.
+pub need-failed : {A : Type 0} (b : Bool) (f : Fault) (rest : Outcome A) → b ≡ false → need b f rest ≡ refused f
+unfolding need
+need-failed b f rest e = rw e
+
 -- Where something is found behind an outcome, that found something too.
 pub followed : {A B : Type 0} (o : Outcome A) (next : A → Outcome B) (b : B) → andThen o next ≡ found b
     → (a : A) × (o ≡ found a) × (next a ≡ found b)
@@ -38,6 +43,11 @@ followed (found a) next b e = (a, refl, e)
 pub then-found : {A B : Type 0} {o : Outcome A} (next : A → Outcome B) {a : A} → o ≡ found a → andThen o next ≡ next a
 unfolding andThen
 then-found next e = rw e
+
+-- A refusal goes straight out.
+pub then-refused : {A B : Type 0} {o : Outcome A} (next : A → Outcome B) {f : Fault} → o ≡ refused f → andThen o next ≡ refused f
+unfolding andThen
+then-refused next e = rw e
 
 -- Each test of the list passes.
 abbrev pub Hold : List Check → Type 0

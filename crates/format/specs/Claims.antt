@@ -68,7 +68,7 @@ unfoldable pub additions : List Part → List ℕ → Outcome (List ℕ)
 additions [] d = found d
 additions (p ∷ ps) d = andThen (addition (p .kind) (p .fields) d) (λ bs. additions ps (draftAfter (found bs) d))
 
--- A new length n in the two bytes behind place at + 2.
+-- A new length n in the part that begins at place at: in its bytes 2 and 3.
 abbrev pub restate : ℕ → ℕ → List ℕ → List ℕ
 restate at n bs = set (set bs (at + 2) (n / 256 % 256)) (at + 3) (n % 256)
 

@@ -5,7 +5,7 @@ use mathlib.Core.List.{List, [], _∷_, _++_}
 use Prim.Native.Nat.{ℕ}
 use lib.ListN.{replicate, set}
 use Rattle.format.specs.Parts.{Part, information, protection}
-use Rattle.format.specs.Forms.{ruleIdForm, dateExists}
+use Rattle.format.specs.Forms.{dateExists}
 use Rattle.format.specs.Reading.{answer}
 use Rattle.format.specs.declared.Answer.{Answer}
 use Rattle.format.specs.declared.Answer.the-variants.{Accepted, Refused}
@@ -25,32 +25,32 @@ partsT =
     ∷ record { kind = protection; fields = replicate 32 0 ∷ replicate 8 0 ∷ replicate 16 0 ∷ [] }
     ∷ []
 
--- an example: the answer for some bytes, whether a date exists, whether a Rule ID has its form
+-- the smallest token with a bare rule of this Rule ID after its other section
+abbrev pub withRule : List ℕ → List ℕ
+withRule r = set tokenT 3 100 ++ (0x12 ∷ 0 ∷ 0 ∷ 20 ∷ r ++ (0 ∷ 0 ∷ 0 ∷ 0 ∷ 8 ∷ 0 ∷ 0 ∷ 0 ∷ []))
+
+-- an example: the answer for some bytes, the answer whichever number stands in them, whether a date exists
 pub data Example : Type 0 where
   read : List ℕ → Answer → Example
+  readAny : (ℕ → List ℕ) → Answer → Example
   date : List ℕ → Bool → Example
-  ruleId : List ℕ → Bool → Example
 
 abbrev pub Holds : Example → Type 0
 Holds (read bs a) = answer bs ≡ a
+Holds (readAny f a) = (b : ℕ) → answer (f b) ≡ a
 Holds (date d b) = dateExists d ≡ b
-Holds (ruleId r b) = ruleIdForm r ≡ b
-
-abbrev pub AllHold : List Example → Type 0
-AllHold [] = Unit {0}
-AllHold (e ∷ es) = Holds e × AllHold es
 
 abbrev pub starred : List Example
 starred =
     read tokenT (Accepted 2)
     ∷ read [] (Refused 1 0)
-    ∷ read (30 ∷ 0 ∷ 0 ∷ 8 ∷ 0 ∷ 0 ∷ 0 ∷ 0 ∷ []) (Refused 20 8)
+    ∷ read (0x1E ∷ 0 ∷ 0 ∷ 8 ∷ 0 ∷ 0 ∷ 0 ∷ 0 ∷ []) (Refused 20 8)
     ∷ read (set tokenT 79 1) (Refused 21 18)
-    ∷ read (set (set tokenT 79 1) 0 31) (Accepted 2)
-    ∷ read (tokenT ++ (0 ∷ [])) (Refused 4 0)
+    ∷ read (set (set tokenT 79 1) 0 0x1F) (Accepted 2)
+    ∷ readAny (λ b. tokenT ++ (b ∷ [])) (Refused 4 0)
     ∷ date (0x07 ∷ 0xD0 ∷ 0x02 ∷ 0x1D ∷ []) true
     ∷ date (0x07 ∷ 0x6C ∷ 0x02 ∷ 0x1D ∷ []) false
     ∷ date (0x27 ∷ 0x0F ∷ 0x0C ∷ 0x1F ∷ []) true
-    ∷ ruleId (replicate 8 32) false
-    ∷ ruleId (65 ∷ replicate 7 32) true
+    ∷ read (withRule (replicate 8 32)) (Refused 17 80)
+    ∷ read (withRule (65 ∷ replicate 7 32)) (Accepted 3)
     ∷ []

@@ -10,9 +10,9 @@ use Rattle.format.specs.Bytes.{bigEndian, number, bytesAt}
 -- a field of a layout, with its length in bytes
 pub data Item : Type 0 where
   code : ℕ → ℕ → Item  -- w bytes that hold the number v: an id or a tag
-  zeros : ℕ → ℕ → Item  -- n bytes that are always 0, and the refusal where they are not
-  own : ℕ → Item  -- w bytes: the length of the whole part
-  count : ℕ → ℕ → Item  -- w bytes: the length of the chosen field that comes after k others from here
+  zeros : ℕ → ℕ → Item  -- n bytes that are always 0, and the refusal where they are not (read of a kind's body only)
+  own : ℕ → Item  -- w bytes: 01's `length`, that of the whole part
+  count : ℕ → ℕ → Item  -- w bytes: one of 01's x, y, n, c, m, z: the length of the chosen field that comes after k others from here
   fixed : ℕ → Item  -- a chosen field of n bytes
   counted : ℕ → Item  -- a chosen field whose length the part's count number s states, counts numbered from 0
 

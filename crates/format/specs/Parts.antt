@@ -59,20 +59,32 @@ tag protection = 1
 tag dates = 2
 tag applicationData = 0
 
--- the fields behind id, version and length, or tag, length and version
+-- the fields after id, version and length, or tag, length and version
 abbrev pub body : Kind → List Item
+-- 11: reserved, x, modulus bits, y, exponent, modulus, flags
 body publicKey = zeros 2 10 ∷ count 2 1 ∷ fixed 2 ∷ count 2 1 ∷ counted 0 ∷ counted 1 ∷ fixed 4 ∷ []
+-- 12: Rule ID, flags, generated length, key-check, symmetric format, asymmetric format
 body rule = fixed 8 ∷ fixed 4 ∷ fixed 1 ∷ fixed 1 ∷ fixed 1 ∷ fixed 1 ∷ []
+-- 12/0001: reserved, n, variant
 body transportVariant = zeros 2 10 ∷ count 1 0 ∷ counted 0 ∷ []
+-- 12/0002: reserved, Rule ID
 body transportRule = zeros 1 10 ∷ fixed 8 ∷ []
+-- 12/0003: reserved, flags, minimum, maximum, x, variant, c, CV
 body exportParameters =
     zeros 2 10 ∷ zeros 1 11 ∷ fixed 1 ∷ fixed 1 ∷ count 1 0 ∷ counted 0 ∷ count 1 0 ∷ counted 1 ∷ []
+-- 12/0004: reserved, Rule ID
 body sourceRule = zeros 1 10 ∷ fixed 8 ∷ []
+-- 12/0005: reserved, flags, m, mask, template, z, label template
 body tokenParameters = zeros 2 10 ∷ zeros 1 11 ∷ count 1 0 ∷ counted 0 ∷ counted 0 ∷ count 1 0 ∷ counted 1 ∷ []
+-- 13: name
 body name = fixed 64 ∷ []
+-- 14: reserved, flags
 body information = zeros 2 10 ∷ fixed 4 ∷ []
+-- 14/0001: reserved, encrypted MAC key, MAC, MKVP
 body protection = zeros 1 10 ∷ fixed 32 ∷ fixed 8 ∷ fixed 16 ∷ []
+-- 14/0002: reserved, flags, activation, expiration
 body dates = zeros 1 10 ∷ fixed 2 ∷ fixed 4 ∷ fixed 4 ∷ []
+-- 15: x, data
 body applicationData = count 2 0 ∷ counted 0 ∷ []
 
 abbrev pub isSubsection : Kind → Bool
@@ -91,6 +103,7 @@ frameLength k = elim (isSubsection k) [ false ↦ 4 | true ↦ 5 ]
 abbrev pub layout : Kind → List Item
 layout k = frame (isSubsection k) (sectionId k) (tag k) ++ body k
 
+-- id, version, length, reserved
 abbrev pub header : List Item
 header = fixed 1 ∷ zeros 1 3 ∷ own 2 ∷ zeros 4 5 ∷ []
 

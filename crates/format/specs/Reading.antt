@@ -15,7 +15,8 @@ use Rattle.format.specs.Legal.{knownId}
 use Rattle.format.specs.declared.Answer.{Answer}
 use Rattle.format.specs.declared.Answer.the-variants.{Accepted, Refused}
 
--- a refusal: its number, the start of the part at fault (0 for the header), and the number of the field tested
+-- a refusal: its number; the start of the part at fault, 0 for the header, or where 01 says so another number (the
+-- token's or the draft's length, the rows needed); and the number of the field tested, which no answer shows
 pub record Fault : Type 0 where
   pub number : ℕ
   pub part : ℕ
@@ -24,7 +25,7 @@ pub record Fault : Type 0 where
 abbrev pub fault : ℕ → ℕ → ℕ → Fault
 fault n p f = record { number = n; part = p; field = f }
 
--- the place of a refusal: the start of the part at fault
+-- the place of a refusal
 abbrev pub place : Fault → ℕ
 place f = f .part
 

@@ -77,8 +77,10 @@ dateRules flags activation expiration =
     ∷ check 6 19 (inOrder activation expiration)
     ∷ []
 
--- the rules on the fields of a kind, in the order in which they are tested; x says that the token is external
+-- the rules on the fields of a kind, in the order in which they are tested; x says that the token is external. A check
+-- names its field by its number in the layout; f are the chosen fields, named over each kind, the first of them 0
 abbrev pub checks : Bool → Kind → Fields → List Check
+-- f: modulus bits, exponent, modulus, flags; x is field 4, y field 6
 checks x publicKey f =
     check 4 16 (exponentLength (getD f 1 []))
     ∷ check 5 16 (modulusBits (number (getD f 0 [])))
@@ -87,6 +89,7 @@ checks x publicKey f =
     ∷ check 7 16 (exponentForm (getD f 1 []) (getD f 2 []))
     ∷ check 9 11 (keyFlags (getD f 3 []))
     ∷ []
+-- f: Rule ID, flags, generated length, key-check, symmetric format, asymmetric format
 checks x rule f =
     check 3 17 (ruleIdForm (getD f 0 []))
     ∷ check 4 11 (zeroOrOne (getD f 1 []))
@@ -95,8 +98,11 @@ checks x rule f =
     ∷ check 7 11 (symmetricFormat (getD f 1 []) (getD f 4 []))
     ∷ check 8 11 (zeroToTwo (getD f 5 []))
     ∷ []
+-- f: variant
 checks x transportVariant f = []
+-- f: Rule ID
 checks x transportRule f = check 4 17 (ruleIdForm (getD f 0 [])) ∷ []
+-- f: minimum, maximum, variant, CV; x is field 7, c field 9
 checks x exportParameters f =
     check 5 18 (keyLength (number (getD f 0 [])))
     ∷ check 6 18 (keyLength (number (getD f 1 [])))
@@ -104,16 +110,23 @@ checks x exportParameters f =
     ∷ check 7 18 (variantLength (getD f 1 []) (getD f 2 []))
     ∷ check 9 18 (controlLength (getD f 3 []))
     ∷ []
+-- f: Rule ID
 checks x sourceRule f = check 4 17 (ruleIdForm (getD f 0 [])) ∷ []
+-- f: mask, template, label template; m is field 5, z field 8
 checks x tokenParameters f =
     check 5 18 (controlLength (getD f 0 []))
     ∷ check 8 18 (labelLength (getD f 2 []))
     ∷ check 9 17 (eqb (length (getD f 2 [])) 0 || labelForm (getD f 2 []))
     ∷ []
+-- f: name
 checks x name f = []
+-- f: flags
 checks x information f = check 4 11 (zeroOrOne (getD f 0 [])) ∷ []
+-- f: encrypted MAC key, MAC, MKVP
 checks x protection f = check 6 21 (patternAllowed x (getD f 2 [])) ∷ []
+-- f: flags, activation, expiration
 checks x dates f = check 4 11 (zeroOrOne (getD f 0 [])) ∷ dateRules (getD f 0 []) (getD f 1 []) (getD f 2 [])
+-- f: data
 checks x applicationData f = []
 
 -- ---- the rules between parts
