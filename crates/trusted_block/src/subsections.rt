@@ -45,7 +45,7 @@ pub extern "C" fn tb_add_export_parameters(
     ensures second { λ _. ⌜ now (second .exit) ≡ secondOf (writeAnswer (addition Parts.exportParameters (exportFields minimum maximum (now (variant .entry)) (now (vector .entry))) (now (draft .entry)))) ⌝ }
 {
     give(
-        subsection_writer::export_parameters(draft, minimum, maximum, variant, vector),
+        export_writer::export_parameters(draft, minimum, maximum, variant, vector),
         second,
     )
 }
@@ -74,7 +74,7 @@ pub extern "C" fn tb_add_token_parameters(
     ensures second { λ _. ⌜ now (second .exit) ≡ secondOf (writeAnswer (addition Parts.tokenParameters ((now (mask .entry)) ∷ (now (template .entry)) ∷ (now («label_template» .entry)) ∷ []) (now (draft .entry)))) ⌝ }
 {
     give(
-        subsection_writer::token_parameters(draft, mask, template, label_template),
+        template_writer::token_parameters(draft, mask, template, label_template),
         second,
     )
 }
@@ -93,7 +93,7 @@ pub extern "C" fn tb_add_protection(
     ensures second { λ _. ⌜ now (second .exit) ≡ secondOf (writeAnswer (addition Parts.protection ((now («mac_key» .entry)) ∷ (now (mac .entry)) ∷ (now (mkvp .entry)) ∷ []) (now (draft .entry)))) ⌝ }
 {
     give(
-        subsection_writer::protection(draft, mac_key, mac, mkvp),
+        information_writer::protection(draft, mac_key, mac, mkvp),
         second,
     )
 }
@@ -112,7 +112,7 @@ pub extern "C" fn tb_add_dates(
     ensures second { λ _. ⌜ now (second .exit) ≡ secondOf (writeAnswer (addition Parts.dates (dateFields flags (now (activation .entry)) (now (expiration .entry))) (now (draft .entry)))) ⌝ }
 {
     give(
-        subsection_writer::dates(draft, flags, activation, expiration),
+        information_writer::dates(draft, flags, activation, expiration),
         second,
     )
 }

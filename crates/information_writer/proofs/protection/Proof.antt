@@ -14,8 +14,8 @@ use Rattle.storing.proofs.Stores.{stored-then}
 use Rattle.drafts.proofs.Additions.{unfit-added}
 use Rattle.drafts.proofs.Fields.{fixed-fits, fixed-unfit, later-unfit}
 use Rattle.drafts.proofs.StoredParts.{stored-last, subsection-stored}
-use Rattle.subsection_writer.proofs.protection.Statement.{statement}
-use Rattle.subsection_writer.proofs.protection.Tie as tie
+use Rattle.information_writer.proofs.protection.Statement.{statement}
+use Rattle.information_writer.proofs.protection.Tie as tie
 
 -- behind the tests each field has its length
 lengths : (c : tie.Else3)

@@ -11,9 +11,9 @@ use Rattle.storing.proofs.Stores.{stored-then}
 use Rattle.drafts.proofs.Additions.{unfit-added}
 use Rattle.drafts.proofs.Fields.{count-unfit, counted-fits}
 use Rattle.drafts.proofs.StoredParts.{stored-last, section-stored}
-use Rattle.section_writer.proofs.Overlong.{section-overlong}
-use Rattle.section_writer.proofs.application_data.Statement.{statement}
-use Rattle.section_writer.proofs.application_data.Tie as tie
+use Rattle.long_section_writer.proofs.Overlong.{section-overlong}
+use Rattle.long_section_writer.proofs.application_data.Statement.{statement}
+use Rattle.long_section_writer.proofs.application_data.Tie as tie
 
 not-fitting-requires : tie.Need-not-fitting-requires
 not-fitting-requires c κs = search needs

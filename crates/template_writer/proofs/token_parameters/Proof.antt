@@ -15,8 +15,8 @@ use Rattle.storing.proofs.Stores.{stored-then}
 use Rattle.drafts.proofs.Additions.{unfit-added}
 use Rattle.drafts.proofs.Fields.{fixed-fits, fixed-unfit, count-unfit, counted-fits, later-unfit}
 use Rattle.drafts.proofs.StoredParts.{one-stored, stored-last, subsection-stored}
-use Rattle.subsection_writer.proofs.token_parameters.Statement.{statement}
-use Rattle.subsection_writer.proofs.token_parameters.Tie as tie
+use Rattle.template_writer.proofs.token_parameters.Statement.{statement}
+use Rattle.template_writer.proofs.token_parameters.Tie as tie
 
 -- behind the tests a byte can state each length, and the template is as long as the mask
 lengths : (c : tie.Else3)

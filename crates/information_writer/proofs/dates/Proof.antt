@@ -14,8 +14,8 @@ use Rattle.storing.proofs.Stores.{stored-then}
 use Rattle.drafts.proofs.Additions.{unfit-added}
 use Rattle.drafts.proofs.Fields.{fixed-fits, fixed-unfit, later-unfit}
 use Rattle.drafts.proofs.StoredParts.{stored-last, subsection-stored}
-use Rattle.subsection_writer.proofs.dates.Statement.{statement}
-use Rattle.subsection_writer.proofs.dates.Tie as tie
+use Rattle.information_writer.proofs.dates.Statement.{statement}
+use Rattle.information_writer.proofs.dates.Tie as tie
 
 -- behind the tests both dates have their length
 lengths : (c : tie.Else2)

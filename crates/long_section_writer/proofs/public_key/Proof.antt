@@ -17,9 +17,9 @@ use Rattle.storing.proofs.Stores.{stored-then}
 use Rattle.drafts.proofs.Additions.{unfit-added}
 use Rattle.drafts.proofs.Fields.{fixed-fits, count-fits, count-unfit, later-unfit}
 use Rattle.drafts.proofs.StoredParts.{stored-last, section-stored}
-use Rattle.section_writer.proofs.Overlong.{section-overlong}
-use Rattle.section_writer.proofs.public_key.Statement.{statement}
-use Rattle.section_writer.proofs.public_key.Tie as tie
+use Rattle.long_section_writer.proofs.Overlong.{section-overlong}
+use Rattle.long_section_writer.proofs.public_key.Statement.{statement}
+use Rattle.long_section_writer.proofs.public_key.Tie as tie
 
 -- an exponent and a modulus that their counts can state
 key-fits : (bits : ℕ) (x y : List ℕ) (flags : ℕ) → length x ≤ 65535 → length y ≤ 65535

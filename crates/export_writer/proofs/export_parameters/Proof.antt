@@ -15,8 +15,8 @@ use Rattle.storing.proofs.Stores.{stored-then}
 use Rattle.drafts.proofs.Additions.{unfit-added}
 use Rattle.drafts.proofs.Fields.{count-unfit, counted-fits, later-unfit}
 use Rattle.drafts.proofs.StoredParts.{one-stored, stored-last, subsection-stored}
-use Rattle.subsection_writer.proofs.export_parameters.Statement.{statement}
-use Rattle.subsection_writer.proofs.export_parameters.Tie as tie
+use Rattle.export_writer.proofs.export_parameters.Statement.{statement}
+use Rattle.export_writer.proofs.export_parameters.Tie as tie
 
 -- behind the tests a byte can state each length
 lengths : (c : tie.Else2)
