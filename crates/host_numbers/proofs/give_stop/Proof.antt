@@ -1,23 +1,18 @@
 -- The number and the place of a refusal, else zeros.
 use mathlib.Core.Path.{_≡_, sym, ap}
-use Rattle.trusted_block.specs.Steps.{stepNumber, stopPlace}
-use Rattle.trusted_block.proofs.Stops.{no-stop}
+use Rattle.host_numbers.specs.Steps.{stepNumber, stopPlace}
+use Rattle.host_numbers.proofs.Stops.{no-stop}
 use borrow.Author.Needs.{needs}
-use Rattle.trusted_block.proofs.walk.give_stop.Statement.{statement}
-use Rattle.trusted_block.proofs.walk.give_stop.Tie as tie
-use Rattle.trusted_block.proofs.walk.give_stop.Reads as reads
-use Rattle.trusted_block.proofs.walk.give_stop.Lts as lts
+use Rattle.host_numbers.proofs.give_stop.Statement.{statement}
+use Rattle.host_numbers.proofs.give_stop.Tie as tie
 
--- src/walk.rt:15:23
 enum-known-s : tie.Need-enum-known-s
 enum-known-s c = search needs
 
--- src/walk.rt:17:9
 returns : tie.Need-returns
 returns c =
     no-stop (c .before .args .s) (c .match .keys2)
 
--- src/walk.rt:11:1
 returns-2 : tie.Need-returns-2
 unfolding stepNumber stopPlace
 returns-2 c =

@@ -1,26 +1,20 @@
 -- The two numbers of each case.
 use mathlib.Core.Path.{_≡_, sym, ap}
-use Rattle.trusted_block.specs.Numbers.{numberOf, secondOf}
+use Rattle.host_numbers.specs.Numbers.{numberOf, secondOf}
 use borrow.Author.Needs.{needs}
-use Rattle.trusted_block.proofs.give.Statement.{statement}
-use Rattle.trusted_block.proofs.give.Tie as tie
-use Rattle.trusted_block.proofs.give.Reads as reads
-use Rattle.trusted_block.proofs.give.Lts as lts
+use Rattle.host_numbers.proofs.give.Statement.{statement}
+use Rattle.host_numbers.proofs.give.Tie as tie
 
--- src/lib.rt:16:26
 enum-known-a : tie.Need-enum-known-a
 enum-known-a c = search needs
 
--- src/lib.rt:20:25
 enum-known-a-2 : tie.Need-enum-known-a-2
 enum-known-a-2 c = search needs
 
--- src/lib.rt:11:1
 returns : tie.Need-returns
 unfolding numberOf secondOf
 returns c = (sym (ap numberOf (c .before .a .given .1)), sym (ap secondOf (c .before .a .given .1)))
 
--- src/lib.rt:11:1
 returns-2 : tie.Need-returns-2
 unfolding numberOf secondOf
 returns-2 c = (sym (ap numberOf (c .before .a2 .given .1)), sym (ap secondOf (c .before .a2 .given .1)))

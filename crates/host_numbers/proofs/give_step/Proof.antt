@@ -1,29 +1,22 @@
 -- The numbers of each case.
 use mathlib.Core.Path.{_≡_, sym, ap, _∙_}
-use Rattle.trusted_block.specs.Steps.{stepNumber, stepSecond, rowKind, rowOffset, rowLength, rowOwner, nextOf}
-use Rattle.trusted_block.proofs.Stops.{no-row}
+use Rattle.host_numbers.specs.Steps.{stepNumber, stepSecond, rowKind, rowOffset, rowLength, rowOwner, nextOf}
+use Rattle.host_numbers.proofs.Stops.{no-row}
 use borrow.Author.Needs.{needs}
-use Rattle.trusted_block.proofs.walk.give_step.Statement.{statement}
-use Rattle.trusted_block.proofs.walk.give_step.Tie as tie
-use Rattle.trusted_block.proofs.walk.give_step.Reads as reads
-use Rattle.trusted_block.proofs.walk.give_step.Lts as lts
-use Rattle.trusted_block.proofs.walk.give_stop.Reads as give-stop-reads
+use Rattle.host_numbers.proofs.give_step.Statement.{statement}
+use Rattle.host_numbers.proofs.give_step.Tie as tie
 
--- src/walk.rt:41:22
 enum-known-s : tie.Need-enum-known-s
 enum-known-s c = search needs
 
--- src/walk.rt:47:9
 give-stop-requires : tie.Need-give-stop-requires
 give-stop-requires c κs = search needs
 
--- src/walk.rt:47:9
 returns : tie.Need-returns
 returns c =
     let z = no-row (c .before .before .before .args .s) (c .before .before .match .keys2) in
     (c .give-stop .ensures .0, (c .give-stop .ensures .1 ∙ z .0, z .1))
 
--- src/walk.rt:24:1
 returns-2 : tie.Need-returns-2
 unfolding stepNumber stepSecond rowKind rowOffset rowLength rowOwner nextOf
 returns-2 c =
