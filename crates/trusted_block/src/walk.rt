@@ -3,7 +3,7 @@ ghost use mathlib.Core.Path.{_≡_};
 ghost use Rattle.format.specs.Views.{stepAt};
 ghost use Rattle.host_numbers.specs.Steps.{stepNumber, stepSecond, rowKind, rowOffset, rowLength, rowOwner, nextOf};
 ghost use Rattle.walker.specs.Walking.{stepBehind};
-use host_numbers::give_step;
+use host_numbers::steps::give_step;
 use lookup::step;
 use walker::nth_row;
 

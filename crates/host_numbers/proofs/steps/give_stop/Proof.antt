@@ -3,8 +3,8 @@ use mathlib.Core.Path.{_≡_, sym, ap}
 use Rattle.host_numbers.specs.Steps.{stepNumber, stopPlace}
 use Rattle.host_numbers.proofs.Stops.{no-stop}
 use borrow.Author.Needs.{needs}
-use Rattle.host_numbers.proofs.give_stop.Statement.{statement}
-use Rattle.host_numbers.proofs.give_stop.Tie as tie
+use Rattle.host_numbers.proofs.steps.give_stop.Statement.{statement}
+use Rattle.host_numbers.proofs.steps.give_stop.Tie as tie
 
 enum-known-s : tie.Need-enum-known-s
 enum-known-s c = search needs

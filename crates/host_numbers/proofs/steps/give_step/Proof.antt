@@ -3,8 +3,8 @@ use mathlib.Core.Path.{_≡_, sym, ap, _∙_}
 use Rattle.host_numbers.specs.Steps.{stepNumber, stepSecond, rowKind, rowOffset, rowLength, rowOwner, nextOf}
 use Rattle.host_numbers.proofs.Stops.{no-row}
 use borrow.Author.Needs.{needs}
-use Rattle.host_numbers.proofs.give_step.Statement.{statement}
-use Rattle.host_numbers.proofs.give_step.Tie as tie
+use Rattle.host_numbers.proofs.steps.give_step.Statement.{statement}
+use Rattle.host_numbers.proofs.steps.give_step.Tie as tie
 
 enum-known-s : tie.Need-enum-known-s
 enum-known-s c = search needs
