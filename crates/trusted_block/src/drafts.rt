@@ -1,8 +1,8 @@
 // The start and the finish of a draft for host programs in C.
 ghost use mathlib.Core.Path.{_≡_};
 ghost use Rattle.format.specs.Writer.{writeAnswer, draftAfter, start, finish};
-ghost use Rattle.trusted_block.specs.Numbers.{numberOf, secondOf};
-use crate::give;
+ghost use Rattle.host_numbers.specs.Numbers.{numberOf, secondOf};
+use host_numbers::give;
 
 // Starts a draft.
 #[no_mangle]

@@ -8,29 +8,12 @@ ghost use mathlib.Core.Path.{_≡_};
 ghost use Rattle.format.specs.Reading.{answer};
 ghost use Rattle.format.specs.Table.{tableAnswer, tableAfter};
 ghost use Rattle.format.specs.Views.{fieldAt, viewAnswer};
-ghost use Rattle.trusted_block.specs.Numbers.{numberOf, secondOf, offsetOf, lengthOf};
-use format::Answer;
-use format::Where;
+ghost use Rattle.host_numbers.specs.Numbers.{numberOf, secondOf, offsetOf, lengthOf};
+use host_numbers::give;
+use host_numbers::give_where;
 use lookup::field_at;
 use reading::read;
 use reading::read_table;
-
-// The two numbers of an answer.
-pub(crate) fn give(a: Answer, second: &mut u32) -> u32
-    ensures number { λ r. ⌜ r ≡ numberOf a ⌝ }
-    ensures second { λ _. ⌜ now (second .exit) ≡ secondOf a ⌝ }
-{
-    match a {
-        Answer::Accepted(n) => {
-            *second = n;
-            0
-        }
-        Answer::Refused(n, p) => {
-            *second = p;
-            n
-        }
-    }
-}
 
 // The reading of a token.
 #[no_mangle]
@@ -66,19 +49,5 @@ pub extern "C" fn tb_view(
     ensures offset { λ _. ⌜ now (offset .exit) ≡ offsetOf (fieldAt (now (token .entry)) row field) ⌝ }
     ensures length { λ _. ⌜ now (length .exit) ≡ lengthOf (fieldAt (now (token .entry)) row field) ⌝ }
 {
-    let w = field_at(token, row, field);
-    match w {
-        Where::At(o, n) => {
-            *second = 0;
-            *offset = o;
-            *length = n;
-            0
-        }
-        Where::Missing(number, place) => {
-            *second = place;
-            *offset = 0;
-            *length = 0;
-            number
-        }
-    }
+    give_where(field_at(token, row, field), second, offset, length)
 }

@@ -3,8 +3,8 @@ ghost use mathlib.Core.Path.{_≡_};
 ghost use mathlib.Core.List.{_∷_, []};
 ghost use Rattle.format.specs.Parts as Parts;
 ghost use Rattle.format.specs.Writer.{writeAnswer, draftAfter, addition, publicKeyFields, ruleFields, informationFields};
-ghost use Rattle.trusted_block.specs.Numbers.{numberOf, secondOf};
-use crate::give;
+ghost use Rattle.host_numbers.specs.Numbers.{numberOf, secondOf};
+use host_numbers::give;
 
 // Adds the public key, section 11.
 #[no_mangle]
@@ -21,7 +21,7 @@ pub extern "C" fn tb_add_public_key(
     ensures second { λ _. ⌜ now (second .exit) ≡ secondOf (writeAnswer (addition Parts.publicKey (publicKeyFields «modulus_bits» (now (exponent .entry)) (now (modulus .entry)) flags) (now (draft .entry)))) ⌝ }
 {
     give(
-        section_writer::public_key(draft, modulus_bits, exponent, modulus, flags),
+        long_section_writer::public_key(draft, modulus_bits, exponent, modulus, flags),
         second,
     )
 }
@@ -83,5 +83,5 @@ pub extern "C" fn tb_add_application_data(draft: &mut [u8], data: &[u8], second:
     ensures draft { λ _. ⌜ now (draft .exit) ≡ draftAfter (addition Parts.applicationData ((now («data» .entry)) ∷ []) (now (draft .entry))) (now (draft .entry)) ⌝ }
     ensures second { λ _. ⌜ now (second .exit) ≡ secondOf (writeAnswer (addition Parts.applicationData ((now («data» .entry)) ∷ []) (now (draft .entry)))) ⌝ }
 {
-    give(section_writer::application_data(draft, data), second)
+    give(long_section_writer::application_data(draft, data), second)
 }

@@ -3,8 +3,8 @@ ghost use mathlib.Core.Path.{_≡_};
 ghost use mathlib.Core.List.{_∷_, []};
 ghost use Rattle.format.specs.Parts as Parts;
 ghost use Rattle.format.specs.Writer.{writeAnswer, draftAfter, addition, exportFields, dateFields};
-ghost use Rattle.trusted_block.specs.Numbers.{numberOf, secondOf};
-use crate::give;
+ghost use Rattle.host_numbers.specs.Numbers.{numberOf, secondOf};
+use host_numbers::give;
 
 // Adds the variant of the transport key, 0001 of a rule.
 #[no_mangle]
@@ -45,7 +45,7 @@ pub extern "C" fn tb_add_export_parameters(
     ensures second { λ _. ⌜ now (second .exit) ≡ secondOf (writeAnswer (addition Parts.exportParameters (exportFields minimum maximum (now (variant .entry)) (now (vector .entry))) (now (draft .entry)))) ⌝ }
 {
     give(
-        subsection_writer::export_parameters(draft, minimum, maximum, variant, vector),
+        export_writer::export_parameters(draft, minimum, maximum, variant, vector),
         second,
     )
 }
@@ -74,7 +74,7 @@ pub extern "C" fn tb_add_token_parameters(
     ensures second { λ _. ⌜ now (second .exit) ≡ secondOf (writeAnswer (addition Parts.tokenParameters ((now (mask .entry)) ∷ (now (template .entry)) ∷ (now («label_template» .entry)) ∷ []) (now (draft .entry)))) ⌝ }
 {
     give(
-        subsection_writer::token_parameters(draft, mask, template, label_template),
+        template_writer::token_parameters(draft, mask, template, label_template),
         second,
     )
 }
@@ -93,7 +93,7 @@ pub extern "C" fn tb_add_protection(
     ensures second { λ _. ⌜ now (second .exit) ≡ secondOf (writeAnswer (addition Parts.protection ((now («mac_key» .entry)) ∷ (now (mac .entry)) ∷ (now (mkvp .entry)) ∷ []) (now (draft .entry)))) ⌝ }
 {
     give(
-        subsection_writer::protection(draft, mac_key, mac, mkvp),
+        information_writer::protection(draft, mac_key, mac, mkvp),
         second,
     )
 }
@@ -112,7 +112,7 @@ pub extern "C" fn tb_add_dates(
     ensures second { λ _. ⌜ now (second .exit) ≡ secondOf (writeAnswer (addition Parts.dates (dateFields flags (now (activation .entry)) (now (expiration .entry))) (now (draft .entry)))) ⌝ }
 {
     give(
-        subsection_writer::dates(draft, flags, activation, expiration),
+        information_writer::dates(draft, flags, activation, expiration),
         second,
     )
 }

@@ -1,5 +1,5 @@
-// Public: the start and the finish of a lent draft; section_writer and subsection_writer have the additions. The calls ask
-// nothing.
+// Public: the start and the finish of a lent draft; section_writer, long_section_writer, subsection_writer, export_writer,
+// template_writer and information_writer have the additions. The calls ask nothing.
 ghost use mathlib.Core.Path.{_≡_};
 ghost use Rattle.format.specs.Writer.{writeAnswer, draftAfter, start as started};
 use drafts::heads::section_head;

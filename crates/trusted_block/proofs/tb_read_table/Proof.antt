@@ -1,27 +1,19 @@
 -- The reading into a table, as two numbers.
 use mathlib.Core.Path.{_≡_, ap, _∙_}
-use Rattle.trusted_block.specs.Numbers.{numberOf, secondOf}
+use Rattle.host_numbers.specs.Numbers.{numberOf, secondOf}
 use borrow.Author.Needs.{needs}
 use Rattle.trusted_block.proofs.tb_read_table.Statement.{statement}
 use Rattle.trusted_block.proofs.tb_read_table.Tie as tie
-use Rattle.trusted_block.proofs.tb_read_table.Reads as reads
-use Rattle.trusted_block.proofs.tb_read_table.Lts as lts
-use Rattle.reading.proofs.read_table.Reads as read-table-reads
-use Rattle.trusted_block.proofs.give.Reads as give-reads
 
--- src/lib.rt:43:10
 read-table-requires : tie.Need-read-table-requires
 read-table-requires c κs = search needs
 
--- src/lib.rt:43:5
 give-requires : tie.Need-give-requires
 give-requires c κs = search needs
 
--- src/lib.rt:37:1
 same-length : tie.Need-same-length
 same-length c = search needs
 
--- src/lib.rt:37:1
 returns : tie.Need-returns
 returns c =
     (c .give .ensures .0 ∙ ap numberOf (c .before .before .before .before .read-table .ensures .0), (c .before .before .before .before .read-table .ensures .1, c .give .ensures .1 ∙ ap secondOf (c .before .before .before .before .read-table .ensures .0)))

@@ -1,19 +1,16 @@
 -- The answer as two numbers.
 use mathlib.Core.Path.{ap, _∙_}
-use Rattle.trusted_block.specs.Numbers.{numberOf, secondOf}
+use Rattle.host_numbers.specs.Numbers.{numberOf, secondOf}
 use borrow.Author.Needs.{needs}
 use Rattle.trusted_block.proofs.drafts.tb_finish.Statement.{statement}
 use Rattle.trusted_block.proofs.drafts.tb_finish.Tie as tie
 
--- src/drafts.rt:23:10
 finish-requires : tie.Need-finish-requires
 finish-requires c κs = search needs
 
--- src/drafts.rt:23:5
 give-requires : tie.Need-give-requires
 give-requires c κs = search needs
 
--- src/drafts.rt:18:1
 returns : tie.Need-returns
 returns c = (c .give .ensures .0 ∙ ap numberOf (c .before .before .finish .ensures), c .give .ensures .1 ∙ ap secondOf (c .before .before .finish .ensures))
 

@@ -1,22 +1,18 @@
 -- The answer as two numbers, and what the draft then holds.
 use borrow.Author.Needs.{needs}
-use Rattle.trusted_block.proofs.Given.{given}
+use Rattle.host_numbers.proofs.Given.{given}
 use Rattle.trusted_block.proofs.drafts.tb_start.Statement.{statement}
 use Rattle.trusted_block.proofs.drafts.tb_start.Tie as tie
 
--- src/drafts.rt:14:10
 start-requires : tie.Need-start-requires
 start-requires c κs = search needs
 
--- src/drafts.rt:14:5
 give-requires : tie.Need-give-requires
 give-requires c κs = search needs
 
--- src/drafts.rt:8:1
 same-length : tie.Need-same-length
 same-length c = search needs
 
--- src/drafts.rt:8:1
 returns : tie.Need-returns
 returns c = given (c .give .ensures) (c .before .before .before .before .start .ensures)
 

@@ -1,23 +1,16 @@
 -- The row of a number, as numbers.
 use mathlib.Core.Path.{_≡_, ap, _∙_}
-use Rattle.trusted_block.specs.Steps.{stepNumber, stepSecond, rowKind, rowOffset, rowLength, rowOwner, nextOf}
+use Rattle.host_numbers.specs.Steps.{stepNumber, stepSecond, rowKind, rowOffset, rowLength, rowOwner, nextOf}
 use borrow.Author.Needs.{needs}
 use Rattle.trusted_block.proofs.walk.tb_row.Statement.{statement}
 use Rattle.trusted_block.proofs.walk.tb_row.Tie as tie
-use Rattle.trusted_block.proofs.walk.tb_row.Reads as reads
-use Rattle.trusted_block.proofs.walk.tb_row.Lts as lts
-use Rattle.trusted_block.proofs.walk.give_step.Reads as give-step-reads
-use Rattle.walker.proofs.nth_row.Reads as nth-row-reads
 
--- src/walk.rt:101:15
 nth-row-requires : tie.Need-nth-row-requires
 nth-row-requires c κs = search needs
 
--- src/walk.rt:101:5
 give-step-requires : tie.Need-give-step-requires
 give-step-requires c κs = search needs
 
--- src/walk.rt:82:1
 returns : tie.Need-returns
 returns c =
     let e = c .before .before .before .before .before .before .before .nth-row .ensures in

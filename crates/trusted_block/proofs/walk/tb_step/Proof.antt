@@ -1,23 +1,16 @@
 -- The step of the walk, as numbers.
 use mathlib.Core.Path.{_≡_, ap, _∙_}
-use Rattle.trusted_block.specs.Steps.{stepNumber, stepSecond, rowKind, rowOffset, rowLength, rowOwner, nextOf}
+use Rattle.host_numbers.specs.Steps.{stepNumber, stepSecond, rowKind, rowOffset, rowLength, rowOwner, nextOf}
 use borrow.Author.Needs.{needs}
 use Rattle.trusted_block.proofs.walk.tb_step.Statement.{statement}
 use Rattle.trusted_block.proofs.walk.tb_step.Tie as tie
-use Rattle.trusted_block.proofs.walk.tb_step.Reads as reads
-use Rattle.trusted_block.proofs.walk.tb_step.Lts as lts
-use Rattle.lookup.proofs.step.Reads as step-reads
-use Rattle.trusted_block.proofs.walk.give_step.Reads as give-step-reads
 
--- src/walk.rt:78:15
 step-requires : tie.Need-step-requires
 step-requires c κs = search needs
 
--- src/walk.rt:78:5
 give-step-requires : tie.Need-give-step-requires
 give-step-requires c κs = search needs
 
--- src/walk.rt:59:1
 returns : tie.Need-returns
 returns c =
     let e = c .before .before .before .before .before .before .before .step .ensures in

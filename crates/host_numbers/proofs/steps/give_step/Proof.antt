@@ -1,0 +1,27 @@
+-- The numbers of each case.
+use mathlib.Core.Path.{_≡_, sym, ap, _∙_}
+use Rattle.host_numbers.specs.Steps.{stepNumber, stepSecond, rowKind, rowOffset, rowLength, rowOwner, nextOf}
+use Rattle.host_numbers.proofs.Stops.{no-row}
+use borrow.Author.Needs.{needs}
+use Rattle.host_numbers.proofs.steps.give_step.Statement.{statement}
+use Rattle.host_numbers.proofs.steps.give_step.Tie as tie
+
+enum-known-s : tie.Need-enum-known-s
+enum-known-s c = search needs
+
+give-stop-requires : tie.Need-give-stop-requires
+give-stop-requires c κs = search needs
+
+returns : tie.Need-returns
+returns c =
+    let z = no-row (c .before .before .before .args .s) (c .before .before .match .keys2) in
+    (c .give-stop .ensures .0, (c .give-stop .ensures .1 ∙ z .0, z .1))
+
+returns-2 : tie.Need-returns-2
+unfolding stepNumber stepSecond rowKind rowOffset rowLength rowOwner nextOf
+returns-2 c =
+    let e = c .before .s .given .1 in
+    (sym (ap stepNumber e), (sym (ap stepSecond e), (sym (ap rowKind e), (sym (ap rowOffset e), (sym (ap rowLength e), (sym (ap rowOwner e), sym (ap nextOf e)))))))
+
+pub give-step-spec : {M : Type 1} → statement M
+give-step-spec = tie.close (tie.spec enum-known-s give-stop-requires returns returns-2)
