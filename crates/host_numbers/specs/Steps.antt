@@ -1,4 +1,5 @@
--- A step of the walk as the numbers that a host program gets: a row is counted as 1, the end as 0; where there is no row, its numbers are 0.
+-- A step of the walk, and a row asked for by its number, as the numbers that a host program gets. Where there is no row, its
+-- numbers are 0: so the end has kind 0, and no row has.
 use Prim.Native.Nat.{ℕ}
 use Rattle.format.specs.declared.Row.{Row}
 use Rattle.format.specs.declared.Step.{Step}
@@ -10,15 +11,15 @@ stepNumber (Record r n) = 0
 stepNumber End = 0
 stepNumber (Stopped n p) = n
 
--- the place of a refusal, 0 where there is none
-unfoldable pub stopPlace : Step → ℕ
-stopPlace (Record r n) = 0
-stopPlace End = 0
-stopPlace (Stopped n p) = p
+-- the same where a row is asked for by its number: behind the last row there is none
+unfoldable pub rowAnswer : Step → ℕ
+rowAnswer (Record r n) = 0
+rowAnswer End = 22
+rowAnswer (Stopped n p) = n
 
--- the second number: how many rows are given, 1 or 0, or the refusal's place
+-- the second number: the place of a refusal, else 0
 unfoldable pub stepSecond : Step → ℕ
-stepSecond (Record r n) = 1
+stepSecond (Record r n) = 0
 stepSecond End = 0
 stepSecond (Stopped n p) = p
 

@@ -1,8 +1,9 @@
 // The walk over the rows of a token, and a row by its number, for host programs.
 ghost use mathlib.Core.Path.{_≡_};
 ghost use Rattle.format.specs.Views.{stepAt};
-ghost use Rattle.host_numbers.specs.Steps.{stepNumber, stepSecond, rowKind, rowOffset, rowLength, rowOwner, nextOf};
+ghost use Rattle.host_numbers.specs.Steps.{stepNumber, rowAnswer, stepSecond, rowKind, rowOffset, rowLength, rowOwner, nextOf};
 ghost use Rattle.walker.specs.Walking.{stepBehind};
+use host_numbers::steps::give_row;
 use host_numbers::steps::give_step;
 use lookup::step;
 use walker::nth_row;
@@ -38,7 +39,7 @@ pub extern "C" fn tb_step(
     )
 }
 
-// The row of this number; behind the last row the end.
+// The row of this number.
 #[no_mangle]
 pub extern "C" fn tb_row(
     token: &[u8],
@@ -50,7 +51,7 @@ pub extern "C" fn tb_row(
     owner: &mut u32,
     next: &mut u32,
 ) -> u32
-    ensures number { λ r. ⌜ r ≡ stepNumber (stepBehind (now (token .entry)) 8 row) ⌝ }
+    ensures number { λ r. ⌜ r ≡ rowAnswer (stepBehind (now (token .entry)) 8 row) ⌝ }
     ensures second { λ _. ⌜ now (second .exit) ≡ stepSecond (stepBehind (now (token .entry)) 8 row) ⌝ }
     ensures kind { λ _. ⌜ now (kind .exit) ≡ rowKind (stepBehind (now (token .entry)) 8 row) ⌝ }
     ensures offset { λ _. ⌜ now (offset .exit) ≡ rowOffset (stepBehind (now (token .entry)) 8 row) ⌝ }
@@ -58,7 +59,7 @@ pub extern "C" fn tb_row(
     ensures owner { λ _. ⌜ now (owner .exit) ≡ rowOwner (stepBehind (now (token .entry)) 8 row) ⌝ }
     ensures next { λ _. ⌜ now (next .exit) ≡ nextOf (stepBehind (now (token .entry)) 8 row) ⌝ }
 {
-    give_step(
+    give_row(
         nth_row(token, row),
         second,
         kind,

@@ -1,5 +1,5 @@
 -- The numbers of each case.
-use mathlib.Core.Path.{_≡_, sym, ap, _∙_}
+use mathlib.Core.Path.{sym, ap}
 use Rattle.host_numbers.specs.Steps.{stepNumber, stepSecond, rowKind, rowOffset, rowLength, rowOwner, nextOf}
 use Rattle.host_numbers.proofs.Stops.{no-row}
 use borrow.Author.Needs.{needs}
@@ -15,7 +15,7 @@ give-stop-requires c κs = search needs
 returns : tie.Need-returns
 returns c =
     let z = no-row (c .before .before .before .args .s) (c .before .before .match .keys2) in
-    (c .give-stop .ensures .0, (c .give-stop .ensures .1 ∙ z .0, z .1))
+    (c .give-stop .ensures .0, (c .give-stop .ensures .1, z))
 
 returns-2 : tie.Need-returns-2
 unfolding stepNumber stepSecond rowKind rowOffset rowLength rowOwner nextOf

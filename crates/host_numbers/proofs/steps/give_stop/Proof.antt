@@ -1,6 +1,6 @@
 -- The number and the place of a refusal, else zeros.
 use mathlib.Core.Path.{_≡_, sym, ap}
-use Rattle.host_numbers.specs.Steps.{stepNumber, stopPlace}
+use Rattle.host_numbers.specs.Steps.{stepNumber, stepSecond}
 use Rattle.host_numbers.proofs.Stops.{no-stop}
 use borrow.Author.Needs.{needs}
 use Rattle.host_numbers.proofs.steps.give_stop.Statement.{statement}
@@ -14,9 +14,9 @@ returns c =
     no-stop (c .before .args .s) (c .match .keys2)
 
 returns-2 : tie.Need-returns-2
-unfolding stepNumber stopPlace
+unfolding stepNumber stepSecond
 returns-2 c =
-    let e = c .before .s .given .1 in (sym (ap stepNumber e), sym (ap stopPlace e))
+    let e = c .before .s .given .1 in (sym (ap stepNumber e), sym (ap stepSecond e))
 
 pub give-stop-spec : {M : Type 1} → statement M
 give-stop-spec = tie.close (tie.spec enum-known-s returns returns-2)
