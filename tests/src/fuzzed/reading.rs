@@ -17,8 +17,9 @@ const UNTOUCHED: u32 = 0xDEAD_BEEF;
 /// At most about this many rows are asked for, by their views and places.
 const ROWS_VIEWED: usize = 24;
 
-/// Of a token with at most so many rows each is asked for by its number.
-const FEW_ROWS: u32 = 8;
+/// At most about this many rows are asked for by number. A row costs as many
+/// readings as there are rows before it.
+const ROWS_NUMBERED: u32 = 9;
 
 /// Every reading call on these bytes.
 pub fn compare(token: &[u8]) -> Answer {
@@ -88,19 +89,14 @@ fn compare_steps(token: &[u8], outcome: &Result<Vec<Row>, Answer>) {
     }
 }
 
-/// The rows by number and behind the last, of a long token one of them, since
-/// a row costs as many readings as there are before it; and a large number.
+/// The rows by number, of a long token some; numbers behind the last.
 fn compare_rows(token: &[u8], outcome: &Result<Vec<Row>, Answer>) {
     let count = outcome.as_ref().map_or(0, |rows| rows.len() as u32);
     let picked = picked(token);
     let large = [0x1_0000, 0x1_0000 + count, u32::MAX, picked | 0x200];
-    let mut numbers = vec![large[picked as usize % large.len()]];
-    if count <= FEW_ROWS {
-        numbers.extend(0..=count + 1);
-    } else {
-        numbers.push(picked % (count + 2));
-    }
-    for number in numbers {
+    let apart = 1 + count / ROWS_NUMBERED;
+    let numbers = (picked % apart..count + 2).step_by(apart as usize);
+    for number in numbers.chain([large[picked as usize % large.len()]]) {
         let expected = walked(row_among, outcome, token, number);
         assert_eq!(library::row(token, number), expected, "row {number}");
     }
