@@ -2,7 +2,7 @@
 
 use trusted_block_tests::fuzzed::coded::{coded, decoded};
 use trusted_block_tests::generate::calls::{Call, Sequence};
-use trusted_block_tests::random::Random;
+pub use trusted_block_tests::random::Random;
 
 /// How much longer what stands for a call may become.
 const LONGER: usize = 80;
@@ -12,7 +12,36 @@ extern "C" {
     fn against_a_wall(bytes: *const u8, length: usize) -> *const u8;
 }
 
-/// The bytes of an input, or of a buffer.
+/// The two functions that libFuzzer calls: one tries an input, the other
+/// changes one.
+#[macro_export]
+macro_rules! target {
+    ($trial:path, $change:path) => {
+        /// # Safety
+        /// Called by libFuzzer.
+        #[no_mangle]
+        pub unsafe extern "C" fn LLVMFuzzerTestOneInput(bytes: *const u8, length: usize) -> i32 {
+            $trial($crate::lent(bytes, length));
+            0
+        }
+
+        /// # Safety
+        /// Called by libFuzzer.
+        #[no_mangle]
+        pub unsafe extern "C" fn LLVMFuzzerCustomMutator(
+            bytes: *mut u8,
+            length: usize,
+            most: usize,
+            seed: u32,
+        ) -> usize {
+            let mut random = $crate::Random::new(seed.into());
+            let other = $change(&mut random, $crate::input(bytes, length), most);
+            $crate::give_back(&other, bytes, most)
+        }
+    };
+}
+
+/// The bytes of an input.
 ///
 /// # Safety
 /// The pointer is libFuzzer's, with its length.

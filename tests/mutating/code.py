@@ -34,21 +34,21 @@ class Function:
 
 
 def functions(lines):
-    """The functions of a file: `fn` at the left edge, its body between a line that ends in `{` and a line `}`."""
+    """The functions and methods of a file: the body lies between a line that ends in `{` and a line `}`, both as far in as `fn`."""
     found, i = [], 0
     while i < len(lines):
-        head = re.match(r"(?:#\[no_mangle\] )?(?:pub(?:\(crate\))? )?(?:extern \"C\" )?fn (\w+)", lines[i])
+        head = re.match(r"( *)(?:#\[no_mangle\] )?(?:pub(?:\(crate\))? )?(?:extern \"C\" )?fn (\w+)", lines[i])
         if not head:
             i += 1
             continue
-        start = i
-        while lines[i] != "{" and not (lines[i].endswith("{") and not lines[i].startswith(" ")):
+        start, edge = i, head.group(1)
+        while not re.match(edge + r"(\S.*)?\{$", lines[i]):
             i += 1
         signature = " ".join(l.strip() for l in lines[start:i + 1] if not l.strip().startswith(("requires", "ensures")))
         first = i + 1
-        while lines[i] != "}":
+        while lines[i] != edge + "}":
             i += 1
-        found.append(Function(head.group(1), signature.split("->")[0], first, i - 1))
+        found.append(Function(head.group(2), signature.split("->")[0], first, i - 1))
     return found
 
 

@@ -3,7 +3,8 @@
 
 /// Bytes as a sequence of writer calls, and back.
 pub mod coded;
-/// Bytes as a token: the reading, tables, views, and the writer on its parts.
+/// Bytes as a token: the reading, tables, steps, rows, views, and the writer
+/// on its parts.
 pub mod reading;
 /// A sequence of writer calls: answers and all bytes.
 pub mod writing;

@@ -78,6 +78,14 @@ pub fn step_among(rows: &[Row], length: usize, place: usize) -> Step {
     }
 }
 
+/// The row of this number of a legal token, and the end behind the last.
+pub fn row_among(rows: &[Row], length: usize, number: usize) -> Step {
+    match rows.get(number) {
+        Some(row) => step_among(rows, length, row.offset as usize),
+        None => Step::End,
+    }
+}
+
 /// A reader that keeps hold of the token's bytes and its place in them.
 pub struct HoldingReader<'a> {
     token: &'a [u8],

@@ -193,7 +193,8 @@ fn closed_input() {
     assert_eq!(output.status.code(), Some(1));
 }
 
-/// A listing that cannot be written is no success.
+/// A listing that cannot be written is no success; the program alone does not
+/// notice.
 #[test]
 fn output_that_cannot_be_written() {
     let full = || File::create("/dev/full").expect("Linux has it");
@@ -203,6 +204,10 @@ fn output_that_cannot_be_written() {
         assert_eq!(status, 2);
         assert!(messages.contains("write error"), "{messages}");
     }
+    let mut alone = Command::new(list_token());
+    alone.stdin(File::open(&token).expect("a sample"));
+    let status = alone.stdout(full()).status().expect("it runs");
+    assert_eq!(status.code(), Some(0));
 }
 
 /// A folder with what list needs: a source, and a stand-in for the toolchain

@@ -10,7 +10,7 @@ use trusted_block_tests::kinds::ALL;
 use trusted_block_tests::library;
 use trusted_block_tests::random::Random;
 use trusted_block_tests::reader::{read, Answer, Row};
-use trusted_block_tests::views::{step, step_among, Step};
+use trusted_block_tests::views::{row_among, step, step_among, Step};
 
 /// Where the first row begins.
 const FIRST: u32 = 8;
@@ -86,14 +86,6 @@ fn follow(token: &[u8], seen: &mut Seen) -> Vec<Row> {
     }
 }
 
-/// The row of this number, as the second reader has it.
-fn expected_row(rows: &[Row], length: usize, number: usize) -> Step {
-    match rows.get(number) {
-        Some(row) => step_among(rows, length, row.offset as usize),
-        None => Step::End,
-    }
-}
-
 #[test]
 fn walks_over_legal_tokens() {
     let mut random = Random::new(53);
@@ -146,7 +138,7 @@ fn every_row_number_of_legal_tokens() {
         let far = FAR.into_iter().map(|number| number as usize);
         for number in numbers.chain(beyond).chain(far) {
             let given = library::row(&token, number as u32);
-            let expected = expected_row(&rows, token.len(), number);
+            let expected = row_among(&rows, token.len(), number);
             assert_eq!(given, expected, "row {number} of {token:02X?}");
             seen.add(given);
         }
@@ -177,11 +169,7 @@ fn steps_of_damaged_tokens() {
         }
         for asked in [0, 1, 5, 300].into_iter().chain(FAR) {
             let given = library::row(&token, asked);
-            assert_eq!(
-                given,
-                by_reader(expected_row, asked),
-                "{asked} {token:02X?}"
-            );
+            assert_eq!(given, by_reader(row_among, asked), "{asked} {token:02X?}");
         }
     }
     println!("{seen:?}");

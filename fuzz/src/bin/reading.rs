@@ -1,46 +1,26 @@
 //! The input is a token.
 #![no_main]
 
-use trusted_block_fuzz::{change_list, changed, changed_call, give_back, input, lent};
+use trusted_block_fuzz::{change_list, changed, changed_call, Random};
 use trusted_block_tests::fuzzed::reading;
 use trusted_block_tests::generate::calls::{any_part, Call};
 use trusted_block_tests::kinds::is_section;
 use trusted_block_tests::parts::written;
-use trusted_block_tests::random::Random;
 use trusted_block_tests::reader::{number, read};
 use trusted_block_tests::views::{fields_of, taken_apart};
 
 /// How much longer a part may become.
 const LONGER: usize = 80;
 
-/// Compares the library with the second reader.
-///
-/// # Safety
-/// Called by libFuzzer.
-#[no_mangle]
-pub unsafe extern "C" fn LLVMFuzzerTestOneInput(bytes: *const u8, length: usize) -> i32 {
-    reading::compare(lent(bytes, length));
-    0
-}
+trusted_block_fuzz::target!(reading::compare, other_token);
 
 /// Changes bytes, or the parts of a legal token.
-///
-/// # Safety
-/// Called by libFuzzer.
-#[no_mangle]
-pub unsafe extern "C" fn LLVMFuzzerCustomMutator(
-    bytes: *mut u8,
-    length: usize,
-    most: usize,
-    seed: u32,
-) -> usize {
-    let mut random = Random::new(seed.into());
-    let token = input(bytes, length);
+fn other_token(random: &mut Random, token: &[u8], most: usize) -> Vec<u8> {
     let other = match random.below(8) {
-        0 => other_parts(&mut random, token),
-        1 => one_part_changed(&mut random, token),
-        2 | 3 => one_field_changed(&mut random, token),
-        4 | 5 => one_part_written_otherwise(&mut random, token),
+        0 => other_parts(random, token),
+        1 => one_part_changed(random, token),
+        2 | 3 => one_field_changed(random, token),
+        4 | 5 => one_part_written_otherwise(random, token),
         _ => None,
     };
     let mut other = other.unwrap_or_else(|| changed(token, most));
@@ -48,7 +28,7 @@ pub unsafe extern "C" fn LLVMFuzzerCustomMutator(
         let stated = (other.len() as u16).to_be_bytes();
         other[2..4].copy_from_slice(&stated);
     }
-    give_back(&other, bytes, most)
+    other
 }
 
 /// A legal token with a part more or less, or in another order.

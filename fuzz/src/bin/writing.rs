@@ -1,41 +1,20 @@
 //! The input stands for a sequence of writer calls on a draft.
 #![no_main]
 
-use trusted_block_fuzz::{change_list, changed, changed_call, give_back, input};
+use trusted_block_fuzz::{change_list, changed, changed_call, Random};
 use trusted_block_tests::fuzzed::coded::{coded, decoded};
 use trusted_block_tests::fuzzed::writing;
 use trusted_block_tests::generate::calls::{any_part, Call};
-use trusted_block_tests::random::Random;
 
-/// Compares the library with the second writer.
-///
-/// # Safety
-/// Called by libFuzzer.
-#[no_mangle]
-pub unsafe extern "C" fn LLVMFuzzerTestOneInput(bytes: *const u8, length: usize) -> i32 {
-    writing::compare(input(bytes, length));
-    0
-}
+trusted_block_fuzz::target!(writing::compare, other_input);
 
 /// Changes bytes, or the list of calls.
-///
-/// # Safety
-/// Called by libFuzzer.
-#[no_mangle]
-pub unsafe extern "C" fn LLVMFuzzerCustomMutator(
-    bytes: *mut u8,
-    length: usize,
-    most: usize,
-    seed: u32,
-) -> usize {
-    let mut random = Random::new(seed.into());
-    let given = input(bytes, length);
-    let other = if random.coin() {
+fn other_input(random: &mut Random, given: &[u8], most: usize) -> Vec<u8> {
+    if random.coin() {
         changed(given, most)
     } else {
-        other_calls(&mut random, given)
-    };
-    give_back(&other, bytes, most)
+        other_calls(random, given)
+    }
 }
 
 /// One call changed, or the list of calls.

@@ -11,6 +11,8 @@
 use crate::generate::calls::{Call, Sequence};
 use crate::kinds;
 use crate::parts::Part;
+use crate::views::part_of;
+use std::mem::take;
 
 /// Sizes of buffers are below this, but for one.
 const SIZES: u16 = 5000;
@@ -39,10 +41,6 @@ impl Input<'_> {
 
     fn two(&mut self) -> u16 {
         u16::from_be_bytes([self.one(), self.one()])
-    }
-
-    fn four(&mut self) -> u32 {
-        u32::from(self.two()) << 16 | u32::from(self.two())
     }
 
     fn bytes(&mut self, length: usize) -> Vec<u8> {
@@ -101,68 +99,40 @@ fn call(input: &mut Input) -> Call {
     }
 }
 
-fn part(kind: u32, input: &mut Input) -> Part {
+/// The width in [`stated`] of a field that is a run of bytes.
+const RUN: usize = 0;
+
+/// Of the fields of a kind those that a part states, in order: the number of
+/// each in document 01, and its width.
+fn stated(kind: u32) -> &'static [(usize, usize)] {
     match kind {
-        kinds::PUBLIC_KEY => Part::PublicKey {
-            modulus_bits: input.two(),
-            exponent: input.field(),
-            modulus: input.field(),
-            flags: input.four(),
-        },
-        kinds::RULE => Part::Rule {
-            rule_id: input.field(),
-            flags: input.four(),
-            generated_length: input.one(),
-            key_check: input.one(),
-            symmetric_format: input.one(),
-            asymmetric_format: input.one(),
-        },
-        kinds::NAME => Part::Name {
-            name: input.field(),
-        },
-        kinds::INFORMATION => Part::Information {
-            flags: input.four(),
-        },
-        kinds::APPLICATION_DATA => Part::ApplicationData {
-            data: input.field(),
-        },
-        _ => subsection(kind, input),
+        kinds::PUBLIC_KEY => &[(5, 2), (7, RUN), (8, RUN), (9, 4)],
+        kinds::RULE => &[(3, RUN), (4, 4), (5, 1), (6, 1), (7, 1), (8, 1)],
+        kinds::TRANSPORT_VARIANT => &[(5, RUN)],
+        kinds::TRANSPORT_RULE | kinds::SOURCE_RULE => &[(4, RUN)],
+        kinds::EXPORT_PARAMETERS => &[(5, 1), (6, 1), (8, RUN), (10, RUN)],
+        kinds::TOKEN_PARAMETERS => &[(6, RUN), (7, RUN), (9, RUN)],
+        kinds::NAME => &[(3, RUN)],
+        kinds::INFORMATION => &[(4, 4)],
+        kinds::PROTECTION => &[(4, RUN), (5, RUN), (6, RUN)],
+        kinds::DATES => &[(4, 2), (5, RUN), (6, RUN)],
+        _ => &[(4, RUN)],
     }
 }
 
-fn subsection(kind: u32, input: &mut Input) -> Part {
-    match kind {
-        kinds::TRANSPORT_VARIANT => Part::TransportVariant {
-            variant: input.field(),
-        },
-        kinds::TRANSPORT_RULE => Part::TransportRule {
-            rule_id: input.field(),
-        },
-        kinds::EXPORT_PARAMETERS => Part::ExportParameters {
-            minimum: input.one(),
-            maximum: input.one(),
-            variant: input.field(),
-            cv: input.field(),
-        },
-        kinds::SOURCE_RULE => Part::SourceRule {
-            rule_id: input.field(),
-        },
-        kinds::TOKEN_PARAMETERS => Part::TokenParameters {
-            mask: input.field(),
-            template: input.field(),
-            label_template: input.field(),
-        },
-        kinds::PROTECTION => Part::Protection {
-            mac_key: input.field(),
-            mac: input.field(),
-            mkvp: input.field(),
-        },
-        _ => Part::Dates {
-            flags: input.two(),
-            activation: input.field(),
-            expiration: input.field(),
-        },
+/// The most fields that a kind has.
+const MOST_FIELDS: usize = 11;
+
+fn part(kind: u32, input: &mut Input) -> Part {
+    let mut fields = vec![Vec::new(); MOST_FIELDS];
+    for (index, width) in stated(kind) {
+        fields[*index] = match *width {
+            RUN => input.field(),
+            width => input.bytes(width),
+        };
     }
+    let fields: Vec<&[u8]> = fields.iter().map(Vec::as_slice).collect();
+    part_of(kind, &fields)
 }
 
 /// Bytes that stand for the sequence, but that a buffer and a field which are
@@ -199,73 +169,16 @@ fn put_call(output: &mut Vec<u8>, call: &Call) {
 }
 
 fn put_part(output: &mut Vec<u8>, part: &Part) {
-    match part {
-        Part::PublicKey {
-            modulus_bits,
-            exponent,
-            modulus,
-            flags,
-        } => {
-            output.extend(modulus_bits.to_be_bytes());
-            put_fields(output, &[exponent, modulus]);
-            output.extend(flags.to_be_bytes());
+    let mut part = part.clone();
+    let runs: Vec<Vec<u8>> = part.runs_mut().into_iter().map(take).collect();
+    // Its numbers, with the runs taken out: these need not fit.
+    let numbers = part.fields(0);
+    let mut runs = runs.iter();
+    for (index, width) in stated(part.kind()) {
+        match *width {
+            RUN => put_field(output, runs.next().expect("a run for each")),
+            _ => output.extend(&numbers[*index]),
         }
-        Part::Rule {
-            rule_id,
-            flags,
-            generated_length,
-            key_check,
-            symmetric_format,
-            asymmetric_format,
-        } => {
-            put_field(output, rule_id);
-            output.extend(flags.to_be_bytes());
-            output.extend([generated_length, key_check]);
-            output.extend([symmetric_format, asymmetric_format]);
-        }
-        Part::Name { name } => put_field(output, name),
-        Part::Information { flags } => output.extend(flags.to_be_bytes()),
-        Part::ApplicationData { data } => put_field(output, data),
-        _ => put_subsection(output, part),
-    }
-}
-
-fn put_subsection(output: &mut Vec<u8>, part: &Part) {
-    match part {
-        Part::TransportVariant { variant } => put_field(output, variant),
-        Part::TransportRule { rule_id } | Part::SourceRule { rule_id } => {
-            put_field(output, rule_id)
-        }
-        Part::ExportParameters {
-            minimum,
-            maximum,
-            variant,
-            cv,
-        } => {
-            output.extend([minimum, maximum]);
-            put_fields(output, &[variant, cv]);
-        }
-        Part::TokenParameters {
-            mask,
-            template,
-            label_template,
-        } => put_fields(output, &[mask, template, label_template]),
-        Part::Protection { mac_key, mac, mkvp } => put_fields(output, &[mac_key, mac, mkvp]),
-        Part::Dates {
-            flags,
-            activation,
-            expiration,
-        } => {
-            output.extend(flags.to_be_bytes());
-            put_fields(output, &[activation, expiration]);
-        }
-        _ => unreachable!("asked of subsections only"),
-    }
-}
-
-fn put_fields(output: &mut Vec<u8>, fields: &[&[u8]]) {
-    for field in fields {
-        put_field(output, field);
     }
 }
 

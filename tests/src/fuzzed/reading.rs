@@ -6,7 +6,7 @@ use crate::kinds::LONGEST;
 use crate::library;
 use crate::library_writer;
 use crate::reader::{read, Answer, Row};
-use crate::views::{fields_of, taken_apart};
+use crate::views::{fields_of, row_among, step_among, taken_apart, Step};
 
 /// Numbers of the table that is always large enough.
 const LARGE: usize = 1200;
@@ -14,8 +14,12 @@ const LARGE: usize = 1200;
 /// What a table holds before a call.
 const UNTOUCHED: u32 = 0xDEAD_BEEF;
 
-/// At most about this many rows are asked for their views.
+/// At most about this many rows are asked for, by their views and places.
 const ROWS_VIEWED: usize = 24;
+
+/// At most about this many rows are asked for by number. A row costs as many
+/// readings as there are rows before it.
+const ROWS_NUMBERED: u32 = 9;
 
 /// Every reading call on these bytes.
 pub fn compare(token: &[u8]) -> Answer {
@@ -24,6 +28,8 @@ pub fn compare(token: &[u8]) -> Answer {
     assert_eq!(library::read(token), expected, "tb_read");
     assert_eq!(fast_read(token), expected, "the optimised reader");
     compare_tables(token, &outcome);
+    compare_steps(token, &outcome);
+    compare_rows(token, &outcome);
     match &outcome {
         Ok(rows) => {
             compare_views(token, rows);
@@ -64,13 +70,69 @@ fn compare_tables(token: &[u8], outcome: &Result<Vec<Row>, Answer>) {
     }
 }
 
+/// The step of the walk: of any bytes at a few places, of a legal token also
+/// at the rows' places and beside them, and at the ends of header and token.
+fn compare_steps(token: &[u8], outcome: &Result<Vec<Row>, Answer>) {
+    let (length, picked) = (token.len() as u32, picked(token));
+    let mut places = vec![8, length, u32::MAX, picked];
+    if let Ok(rows) = outcome {
+        places.extend([0, 7, length - 1, length + 1, picked % length]);
+        places.extend([0x1_0008, 0x1_0000 + length]);
+        for index in some_of(token, rows) {
+            let place = rows[index].offset;
+            places.extend([place - 1, place, place + 1]);
+        }
+    }
+    for place in places {
+        let expected = walked(step_among, outcome, token, place);
+        assert_eq!(library::step(token, place), expected, "place {place}");
+    }
+}
+
+/// The rows by number, of a long token some; numbers behind the last.
+fn compare_rows(token: &[u8], outcome: &Result<Vec<Row>, Answer>) {
+    let count = outcome.as_ref().map_or(0, |rows| rows.len() as u32);
+    let picked = picked(token);
+    let large = [0x1_0000, 0x1_0000 + count, u32::MAX, picked | 0x200];
+    let apart = 1 + count / ROWS_NUMBERED;
+    let numbers = (picked % apart..count + 2).step_by(apart as usize);
+    for number in numbers.chain([large[picked as usize % large.len()]]) {
+        let expected = walked(row_among, outcome, token, number);
+        assert_eq!(library::row(token, number), expected, "row {number}");
+    }
+}
+
+/// What the second reader's walk answers, or its refusal.
+fn walked(
+    walk: fn(&[Row], usize, usize) -> Step,
+    outcome: &Result<Vec<Row>, Answer>,
+    token: &[u8],
+    asked: u32,
+) -> Step {
+    match outcome {
+        Ok(rows) => walk(rows, token.len(), asked as usize),
+        Err(refusal) => Step::Refused(*refusal),
+    }
+}
+
+/// Some number that depends on all bytes.
+fn picked(token: &[u8]) -> u32 {
+    let next = |sum: u32, byte: &u8| sum.rotate_left(5) ^ u32::from(*byte);
+    token.iter().fold(0, next).wrapping_mul(0x9E37_79B1)
+}
+
+/// The numbers of all rows, of a long token of some, by its last byte.
+fn some_of(token: &[u8], rows: &[Row]) -> impl Iterator<Item = usize> {
+    let apart = 1 + rows.len() / ROWS_VIEWED;
+    let first = usize::from(token[token.len() - 1]) % apart;
+    (first..rows.len()).step_by(apart)
+}
+
 /// All fields of the rows, of a long token of some rows, and others that are
 /// not there.
 fn compare_views(token: &[u8], rows: &[Row]) {
     let no_such = Err(Answer::new(22, 0));
-    let apart = 1 + rows.len() / ROWS_VIEWED;
-    let first = usize::from(token[token.len() - 1]) % apart;
-    for index in (first..rows.len()).step_by(apart) {
+    for index in some_of(token, rows) {
         let number = index as u32;
         let mut place = rows[index].offset;
         let fields = fields_of(token, &rows[index]);

@@ -185,14 +185,19 @@ pub fn header_length(cut: &mut CutToken, random: &mut Random) -> Option<Expected
 
 pub fn section_below_least(cut: &mut CutToken, random: &mut Random) -> Option<Expected> {
     let index = any_section(cut, random)?;
-    let least = least_length(cut.pieces[index].kind)?;
-    let length = match random.below(3) {
-        0 => least - 1,
-        1 => random.below(5),
-        _ => random.below(least),
-    };
+    let length = below_least(random, cut.pieces[index].kind)?;
     cut.pieces[index].set_length(length);
     at_piece(6, index)
+}
+
+/// A length below the least of its kind.
+fn below_least(random: &mut Random, kind: u32) -> Option<usize> {
+    let least = least_length(kind)?;
+    Some(match random.below(3) {
+        0 => least - 1,
+        1 => random.below(6),
+        _ => random.below(least),
+    })
 }
 
 pub fn section_past_end(cut: &mut CutToken, random: &mut Random) -> Option<Expected> {
@@ -215,12 +220,7 @@ fn beyond(random: &mut Random, left: usize) -> usize {
 
 pub fn subsection_below_least(cut: &mut CutToken, random: &mut Random) -> Option<Expected> {
     let index = any_subsection(cut, random)?;
-    let least = least_length(cut.pieces[index].kind)?;
-    let length = match random.below(3) {
-        0 => least - 1,
-        1 => random.below(6),
-        _ => random.below(least),
-    };
+    let length = below_least(random, cut.pieces[index].kind)?;
     cut.pieces[index].set_length(length);
     at_piece(12, index)
 }
