@@ -12,7 +12,7 @@
  * may run in several threads at once on memory of their own.
  *  - Any bytes may come in. No call relies on an earlier check or on an earlier call.
  *  - Bytes are lent as a pointer and a length. With length 0 the pointer may be null.
- *  - `second`, `offset` and `length` must point to numbers of the caller, apart from each other.
+ *  - `second` and the other numbers that a call gives must point to numbers of the caller, apart from each other.
  *  - What a call writes must not overlap anything else that it is lent.
  *  - A refusal changes nothing but these numbers: the table and the draft keep what they held.
  *  - An accepted call touches nothing past what it writes: the rows of the table, the bytes of the draft.
@@ -127,8 +127,8 @@ uint32_t tb_view(const uint8_t *token, size_t token_len, uint32_t row, uint32_t 
 
 /*
  * The walk: the row that begins at a place, and the place of the next row. A walk begins at place 8 and ends
- * at the token's length. 0 with second = 1: a row, its four numbers as in a table, next = where the next row
- * begins, or the token's length. 0 with second = 0: the end. 1 to 21: the token is not legal, second = the
+ * at the token's length. 0: second = 0, and either a row, its four numbers as in a table, next = where the next
+ * row begins, or the token's length; or the end, kind = 0. 1 to 21: the token is not legal, second = the
  * place. 22: no row begins there, second = 0. Without a row the other five numbers are 0. Each call reads the
  * token anew: for all rows tb_read_table is quicker.
  */
@@ -136,8 +136,8 @@ uint32_t tb_step(const uint8_t *token, size_t token_len, uint32_t place, uint32_
                  uint32_t *offset, uint32_t *length, uint32_t *owner, uint32_t *next);
 
 /*
- * The row of a number, found by as many steps of the walk; the answers are those of tb_step, the end where
- * the token has fewer rows.
+ * The row of a number, found by as many steps of the walk; the answers are those of tb_step, and 22 with
+ * second = 0 where the token has fewer rows.
  */
 uint32_t tb_row(const uint8_t *token, size_t token_len, uint32_t row, uint32_t *second, uint32_t *kind,
                 uint32_t *offset, uint32_t *length, uint32_t *owner, uint32_t *next);

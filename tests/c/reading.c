@@ -116,8 +116,8 @@ static void step_is(step_call *call, size_t size, uint32_t asked, uint32_t numbe
 
 static void walk_over_the_smallest(void)
 {
-    static const uint32_t first[6] = {1, TB_KIND_INFORMATION, 8, 72, 0, 18};
-    static const uint32_t last[6] = {1, TB_KIND_PROTECTION, 18, 62, 0, 80};
+    static const uint32_t first[6] = {0, TB_KIND_INFORMATION, 8, 72, 0, 18};
+    static const uint32_t last[6] = {0, TB_KIND_PROTECTION, 18, 62, 0, 80};
     static const uint32_t none[6] = {0, 0, 0, 0, 0, 0};
     uint32_t place;
 
@@ -125,11 +125,11 @@ static void walk_over_the_smallest(void)
         step_is(tb_step, 80, place, place == 8 || place == 18 || place == 80 ? TB_ACCEPTED : TB_NO_SUCH,
                 place == 8 ? first : place == 18 ? last : none);
         step_is(tb_step, 79, place, TB_TOKEN_LENGTH, none);
-        step_is(tb_row, 80, place, TB_ACCEPTED, place == 0 ? first : place == 1 ? last : none);
+        step_is(tb_row, 80, place, place < 2 ? TB_ACCEPTED : TB_NO_SUCH, place == 0 ? first : place == 1 ? last : none);
         step_is(tb_row, 79, place, TB_TOKEN_LENGTH, none);
     }
     step_is(tb_step, 80, UINT32_MAX, TB_NO_SUCH, none);
-    step_is(tb_row, 80, UINT32_MAX, TB_ACCEPTED, none);
+    step_is(tb_row, 80, UINT32_MAX, TB_NO_SUCH, none);
     step_is(tb_step, 0, 8, TB_NO_HEADER, none);
     step_is(tb_row, 0, 0, TB_NO_HEADER, none);
 }

@@ -120,12 +120,12 @@ pub fn step(token: &[u8], place: u32) -> Step {
     walked(calls::tb_step, token, place)
 }
 
-/// The row of this number, and the end behind the last.
+/// The row of this number.
 pub fn row(token: &[u8], row: u32) -> Step {
     walked(calls::tb_row, token, row)
 }
 
-/// Where no row is given, its numbers must be 0.
+/// Where no row is given, its numbers must be 0; no row has kind 0.
 fn walked(call: WalkCall, token: &[u8], asked: u32) -> Step {
     let mut second = NOT_GIVEN;
     let [mut kind, mut offset, mut length, mut owner, mut next] = [NOT_GIVEN; 5];
@@ -143,7 +143,10 @@ fn walked(call: WalkCall, token: &[u8], asked: u32) -> Step {
             &mut next,
         )
     };
-    if (number, second) == (0, 1) {
+    if number == 0 {
+        assert_eq!(second, 0);
+    }
+    if number == 0 && kind != 0 {
         let row = Row {
             kind,
             offset,
@@ -153,9 +156,8 @@ fn walked(call: WalkCall, token: &[u8], asked: u32) -> Step {
         return Step::Row(row, next);
     }
     assert_eq!([kind, offset, length, owner, next], [0; 5]);
-    if (number, second) == (0, 0) {
+    if number == 0 {
         return Step::End;
     }
-    assert_ne!(number, 0, "0 with {second}");
     Step::Refused(Answer { number, second })
 }

@@ -78,11 +78,11 @@ pub fn step_among(rows: &[Row], length: usize, place: usize) -> Step {
     }
 }
 
-/// The row of this number of a legal token, and the end behind the last.
+/// The row of this number of a legal token, with the next row's place.
 pub fn row_among(rows: &[Row], length: usize, number: usize) -> Step {
     match rows.get(number) {
         Some(row) => step_among(rows, length, row.offset as usize),
-        None => Step::End,
+        None => Step::Refused(Answer::new(22, 0)),
     }
 }
 
