@@ -9,7 +9,7 @@ use native.Mathlib.Omega.{arith}
 use lib.ListN.{length, take, drop, getElem?, length-append, drop-of-length-le}
 use lib.Seq.{drop-drop, drop-at}
 use Rattle.format.specs.Bytes.{Bytes, number, bytesAt}
-use Rattle.format.specs.Layout.{write, Slot, slots, slotBytes}
+use Rattle.format.specs.Layout.{write, Slot, slotBytes}
 use Rattle.format.specs.Layout.{fieldsIn, endOf}
 use Rattle.format.specs.Parts.{layout, Part, writeParts}
 use Rattle.format.specs.Rules.{Section, external, sectionsOf}
@@ -105,7 +105,7 @@ slots-count : (bs : List ℕ) (x : Placed) → length (slotsOf bs x) ≡ length 
 slots-count bs x = slot-count [] (layout (x .part .kind)) (drop (x .row .offset) bs) 0
 
 -- The view of a field is the bytes of its slot, and its partner question is answered 0.
-pub view-slot : (bs : List ℕ) (l : Legal bs) (k j : ℕ) (x : Placed) (s : Slot) → IsRow bs l k x
+view-slot : (bs : List ℕ) (l : Legal bs) (k j : ℕ) (x : Placed) (s : Slot) → IsRow bs l k x
     → getElem? (slotsOf bs x) j ≡ some s
     → (view bs k j ≡ slotBytes (drop (x .row .offset) bs) s) × (viewAnswer bs k j ≡ Accepted 0)
 unfolding view viewAnswer bytesAt

@@ -31,7 +31,7 @@ unfolding digitCount
 count-some b n = digits-some n b n
 
 -- a number below b to the k has k or fewer
-pub count-few : (b n k : ℕ) → 2 ≤ b → n < b ^ suc k → digitCount b n ≤ suc k
+count-few : (b n k : ℕ) → 2 ≤ b → n < b ^ suc k → digitCount b n ≤ suc k
 unfolding digitCount
 count-few b n k two h = digits-few b two (suc n) n k h
 
