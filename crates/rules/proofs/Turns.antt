@@ -73,7 +73,7 @@ other-tag j k d = go (sameKind j k) refl
     go false e = refl
 
 -- Every tag is below 6.
-tag-below : (k : Kind) → tag k < 6
+pub tag-below : (k : Kind) → tag k < 6
 tag-below k = ltb-true (tag k) 6 (every-kind (λ j. ltb (tag j) 6) refl k)
 
 -- ---- a subsection of a kind
