@@ -4,6 +4,7 @@ use mathlib.Core.Bool.{Bool, true, false, _&&_, _||_, or-false, or-assoc, or-com
 use mathlib.Core.List.{List, [], _∷_, _++_}
 use mathlib.Core.Logic.{⊎-elim}
 use Prim.Native.Nat.{ℕ, _+_, _≤_, _<_}
+use native.Mathlib.Nat.{pos-of-ne-zero}
 use native.Mathlib.Omega.{arith}
 use lib.Dec.{eqb}
 use lib.ListN.{getD, replicate}
@@ -20,7 +21,6 @@ use Rattle.rule_ids.specs.Keys.{Room, Put}
 use Rattle.rule_ids.proofs.Laws.{same-or, none-kept, none-below, none-among}
 use Rattle.fields.proofs.Lists.{zero-number}
 use Rattle.rules.specs.Ids.{firstField, isRule, keyBefore, EightBytes, Held}
-use Rattle.rules.proofs.Places.{some-place}
 
 -- ---- the number of a Rule ID
 
@@ -36,7 +36,7 @@ pub id-some : (bs : List ℕ) → ruleIdForm bs ≡ true → 0 < number bs
 unfolding ruleIdForm allZero
 id-some [] e = absurd (let z : _≡_ {A = ℕ} 0 1 = cc in omega arith)
 id-some (b ∷ bs) e =
-    some-place (number (b ∷ bs))
+    pos-of-ne-zero
     (λ z.
     let all = zero-number (b ∷ bs) ∙ eq-eqb (number (b ∷ bs)) 0 z in
     first-some b bs e (eqb-true b 0 (and-split (eqb b 0) (allZero bs) all .0)))

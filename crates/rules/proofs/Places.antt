@@ -67,11 +67,6 @@ place-new k at (v ∷ us) u e = go (sameKind k (v .kind)) e (λ q. place-new k (
 
 -- ---- a kind that stands at most once
 
--- A place that is not 0 is a number above 0.
-pub some-place : (n : ℕ) → (n ≡ 0 → ⊥) → 0 < n
-some-place zero h = absurd (h refl)
-some-place (suc n) h = omega arith
-
 -- A place is no further than the bytes reach.
 pub place-small : (s : List ℕ) (k : Kind) (i : ℕ) → Within s k i → i ≤ length s
 place-small s k zero h = omega arith

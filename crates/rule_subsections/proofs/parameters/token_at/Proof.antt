@@ -8,9 +8,9 @@ use borrow.Author.Needs.{needs}
 use Rattle.format.specs.Bytes.{number, bytesAt}
 use Rattle.sections.specs.Refusals.{subHeadChecks}
 use Rattle.sections.proofs.Laws.{stop, pass, head-stop, head-pass, number-at, byte-number, room-for}
-use Rattle.rules.proofs.Laws.{byte-behind}
-use Rattle.rules.proofs.parameters.token_at.Statement.{statement}
-use Rattle.rules.proofs.parameters.token_at.Tie as tie
+use Rattle.rule_subsections.proofs.Laws.{byte-behind}
+use Rattle.rule_subsections.proofs.parameters.token_at.Statement.{statement}
+use Rattle.rule_subsections.proofs.parameters.token_at.Tie as tie
 
 subsection-head-requires : tie.Need-subsection-head-requires
 subsection-head-requires c κs = search needs

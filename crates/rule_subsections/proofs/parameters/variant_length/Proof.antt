@@ -2,8 +2,8 @@
 use native.Mathlib.Omega.{arith}
 use borrow.Author.Tests.{ne-eqb, le-leb, lt-leb}
 use borrow.Author.Needs.{needs}
-use Rattle.rules.proofs.parameters.variant_length.Statement.{statement}
-use Rattle.rules.proofs.parameters.variant_length.Tie as tie
+use Rattle.rule_subsections.proofs.parameters.variant_length.Statement.{statement}
+use Rattle.rule_subsections.proofs.parameters.variant_length.Tie as tie
 
 returns : tie.Need-returns
 returns c = λ f g d e. rw (e, c .if1 .taken)

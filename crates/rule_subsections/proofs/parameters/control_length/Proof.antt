@@ -1,7 +1,7 @@
 -- The three lengths of a control vector or mask, and no other.
-use Rattle.rules.proofs.Laws.{control-yes, control-not}
-use Rattle.rules.proofs.parameters.control_length.Statement.{statement}
-use Rattle.rules.proofs.parameters.control_length.Tie as tie
+use Rattle.rule_subsections.proofs.Laws.{control-yes, control-not}
+use Rattle.rule_subsections.proofs.parameters.control_length.Statement.{statement}
+use Rattle.rule_subsections.proofs.parameters.control_length.Tie as tie
 
 returns : tie.Need-returns
 returns c = λ f e. control-yes f _ e (c .match .keys1)

@@ -8,9 +8,9 @@ use borrow.Author.Needs.{needs}
 use Rattle.format.specs.Forms.{keyLength}
 use Rattle.format.specs.Bytes.{number, bytesAt}
 use Rattle.sections.proofs.Laws.{stop, pass, none, zero-yes, zero-not, number-at, byte-number}
-use Rattle.rules.proofs.Laws.{length-behind}
-use Rattle.rules.proofs.parameters.export_fields.Statement.{statement}
-use Rattle.rules.proofs.parameters.export_fields.Tie as tie
+use Rattle.rule_subsections.proofs.Laws.{length-behind}
+use Rattle.rule_subsections.proofs.parameters.export_fields.Statement.{statement}
+use Rattle.rule_subsections.proofs.parameters.export_fields.Tie as tie
 
 add-two : tie.Need-add-two
 add-two c = search needs

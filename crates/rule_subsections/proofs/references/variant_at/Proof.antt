@@ -8,8 +8,8 @@ use borrow.Author.Needs.{needs}
 use Rattle.format.specs.Bytes.{number, bytesAt}
 use Rattle.sections.specs.Refusals.{subHeadChecks}
 use Rattle.sections.proofs.Laws.{stop, pass, none, head-stop, head-pass, zero-yes, zero-not, number-at, byte-number, room-for}
-use Rattle.rules.proofs.references.variant_at.Statement.{statement}
-use Rattle.rules.proofs.references.variant_at.Tie as tie
+use Rattle.rule_subsections.proofs.references.variant_at.Statement.{statement}
+use Rattle.rule_subsections.proofs.references.variant_at.Tie as tie
 
 subsection-head-requires : tie.Need-subsection-head-requires
 subsection-head-requires c κs = search needs

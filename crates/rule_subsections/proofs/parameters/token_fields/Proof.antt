@@ -8,9 +8,9 @@ use borrow.Author.Needs.{needs}
 use Rattle.format.specs.Forms.{labelForm}
 use Rattle.format.specs.Bytes.{number, bytesAt}
 use Rattle.sections.proofs.Laws.{stop, pass, none, zero-yes, zero-not, byte-number}
-use Rattle.rules.proofs.Laws.{length-behind, label-at, label-none, label-other, label-there}
-use Rattle.rules.proofs.parameters.token_fields.Statement.{statement}
-use Rattle.rules.proofs.parameters.token_fields.Tie as tie
+use Rattle.rule_subsections.proofs.Laws.{length-behind, label-at, label-none, label-other, label-there}
+use Rattle.rule_subsections.proofs.parameters.token_fields.Statement.{statement}
+use Rattle.rule_subsections.proofs.parameters.token_fields.Tie as tie
 
 add-two : tie.Need-add-two
 add-two c = search needs
