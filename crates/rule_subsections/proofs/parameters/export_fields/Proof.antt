@@ -45,9 +45,10 @@ returns-2 c =
     let k = number (bytesAt (drop q s) 10 1) in
     let xe = c .before .before .before .before .before .pre .3 in
     let ce = c .before .before .before .before .before .pre .4 ∙ ap (λ (i : ℕ). number (bytesAt (drop q s) (11 + i) 1)) xe in
+    let b7 = byte-number s (q + 7) (omega arith) in
     let j = number (bytesAt (drop q s) (11 + k) 1) in
     pass _ _ (zero-yes s q 5 2 (c .before .before .before .two .ensures .0) (c .before .before .if1 .left))
-    (stop _ _ (zero-not s q 7 1 (byte-number s (q + 7) (omega arith)) (c .if2 .taken)))
+    (stop _ _ (zero-not s q 7 1 b7 (c .if2 .taken)))
 
 add-minimum : tie.Need-add-minimum
 add-minimum c = search needs
@@ -73,10 +74,12 @@ returns-3 c =
     let k = number (bytesAt (drop q s) 10 1) in
     let xe = c .before .before .before .before .before .before .before .before .before .pre .3 in
     let ce = c .before .before .before .before .before .before .before .before .before .pre .4 ∙ ap (λ (i : ℕ). number (bytesAt (drop q s) (11 + i) 1)) xe in
+    let b7 = byte-number s (q + 7) (omega arith) in
+    let b8 = byte-number s (q + 8) (omega arith) in
     let j = number (bytesAt (drop q s) (11 + k) 1) in
     pass _ _ (zero-yes s q 5 2 (c .before .before .before .before .before .before .before .two .ensures .0) (c .before .before .before .before .before .before .if1 .left))
-    (pass _ _ (zero-yes s q 7 1 (byte-number s (q + 7) (omega arith)) (c .before .before .before .before .if2 .left))
-    (stop _ _ (sym (c .before .key-length .ensures ∙ ap keyLength (number-at s q 8 1 (byte-number s (q + 8) (omega arith)))) ∙ not-true _ (c .if3 .taken))))
+    (pass _ _ (zero-yes s q 7 1 b7 (c .before .before .before .before .if2 .left))
+    (stop _ _ (sym (c .before .key-length .ensures ∙ ap keyLength (number-at s q 8 1 b8)) ∙ not-true _ (c .if3 .taken))))
 
 key-length-requires-2 : tie.Need-key-length-requires-2
 key-length-requires-2 c κs = search needs
@@ -90,11 +93,14 @@ returns-4 c =
     let k = number (bytesAt (drop q s) 10 1) in
     let xe = c .before .before .before .before .before .before .before .before .before .before .before .pre .3 in
     let ce = c .before .before .before .before .before .before .before .before .before .before .before .pre .4 ∙ ap (λ (i : ℕ). number (bytesAt (drop q s) (11 + i) 1)) xe in
+    let b7 = byte-number s (q + 7) (omega arith) in
+    let b8 = byte-number s (q + 8) (omega arith) in
+    let b9 = byte-number s (q + 9) (omega arith) in
     let j = number (bytesAt (drop q s) (11 + k) 1) in
     pass _ _ (zero-yes s q 5 2 (c .before .before .before .before .before .before .before .before .before .two .ensures .0) (c .before .before .before .before .before .before .before .before .if1 .left))
-    (pass _ _ (zero-yes s q 7 1 (byte-number s (q + 7) (omega arith)) (c .before .before .before .before .before .before .if2 .left))
-    (pass _ _ (sym (c .before .before .before .key-length .ensures ∙ ap keyLength (number-at s q 8 1 (byte-number s (q + 8) (omega arith)))) ∙ not-false _ (c .before .before .if3 .left))
-    (stop _ _ (sym (c .before .key-length2 .ensures ∙ ap keyLength (number-at s q 9 1 (byte-number s (q + 9) (omega arith)))) ∙ not-true _ (c .if4 .taken)))))
+    (pass _ _ (zero-yes s q 7 1 b7 (c .before .before .before .before .before .before .if2 .left))
+    (pass _ _ (sym (c .before .before .before .key-length .ensures ∙ ap keyLength (number-at s q 8 1 b8)) ∙ not-false _ (c .before .before .if3 .left))
+    (stop _ _ (sym (c .before .key-length2 .ensures ∙ ap keyLength (number-at s q 9 1 b9)) ∙ not-true _ (c .if4 .taken)))))
 
 returns-5 : tie.Need-returns-5
 returns-5 c =
@@ -105,12 +111,15 @@ returns-5 c =
     let k = number (bytesAt (drop q s) 10 1) in
     let xe = c .before .before .before .before .before .before .before .before .before .before .before .before .pre .3 in
     let ce = c .before .before .before .before .before .before .before .before .before .before .before .before .pre .4 ∙ ap (λ (i : ℕ). number (bytesAt (drop q s) (11 + i) 1)) xe in
+    let b7 = byte-number s (q + 7) (omega arith) in
+    let b8 = byte-number s (q + 8) (omega arith) in
+    let b9 = byte-number s (q + 9) (omega arith) in
     let j = number (bytesAt (drop q s) (11 + k) 1) in
     pass _ _ (zero-yes s q 5 2 (c .before .before .before .before .before .before .before .before .before .before .two .ensures .0) (c .before .before .before .before .before .before .before .before .before .if1 .left))
-    (pass _ _ (zero-yes s q 7 1 (byte-number s (q + 7) (omega arith)) (c .before .before .before .before .before .before .before .if2 .left))
-    (pass _ _ (sym (c .before .before .before .before .key-length .ensures ∙ ap keyLength (number-at s q 8 1 (byte-number s (q + 8) (omega arith)))) ∙ not-false _ (c .before .before .before .if3 .left))
-    (pass _ _ (sym (c .before .before .key-length2 .ensures ∙ ap keyLength (number-at s q 9 1 (byte-number s (q + 9) (omega arith)))) ∙ not-false _ (c .before .if4 .left))
-    (stop _ _ (lt-leb (number (bytesAt (drop q s) 8 1)) (number (bytesAt (drop q s) 9 1)) (omega (arith, (number-at s q 8 1 (byte-number s (q + 8) (omega arith))), (number-at s q 9 1 (byte-number s (q + 9) (omega arith))), c .if5 .taken)))))))
+    (pass _ _ (zero-yes s q 7 1 b7 (c .before .before .before .before .before .before .before .if2 .left))
+    (pass _ _ (sym (c .before .before .before .before .key-length .ensures ∙ ap keyLength (number-at s q 8 1 b8)) ∙ not-false _ (c .before .before .before .if3 .left))
+    (pass _ _ (sym (c .before .before .key-length2 .ensures ∙ ap keyLength (number-at s q 9 1 b9)) ∙ not-false _ (c .before .if4 .left))
+    (stop _ _ (lt-leb (number (bytesAt (drop q s) 8 1)) (number (bytesAt (drop q s) 9 1)) (omega (arith, (number-at s q 8 1 b8), (number-at s q 9 1 b9), c .if5 .taken)))))))
 
 variant-length-requires : tie.Need-variant-length-requires
 variant-length-requires c κs = c .before .before .before .before .before .before .before .before .before .before .before .before .pre .2
@@ -124,13 +133,16 @@ returns-6 c =
     let k = number (bytesAt (drop q s) 10 1) in
     let xe = c .before .before .before .before .before .before .before .before .before .before .before .before .before .before .pre .3 in
     let ce = c .before .before .before .before .before .before .before .before .before .before .before .before .before .before .pre .4 ∙ ap (λ (i : ℕ). number (bytesAt (drop q s) (11 + i) 1)) xe in
+    let b7 = byte-number s (q + 7) (omega arith) in
+    let b8 = byte-number s (q + 8) (omega arith) in
+    let b9 = byte-number s (q + 9) (omega arith) in
     let j = number (bytesAt (drop q s) (11 + k) 1) in
     pass _ _ (zero-yes s q 5 2 (c .before .before .before .before .before .before .before .before .before .before .before .before .two .ensures .0) (c .before .before .before .before .before .before .before .before .before .before .before .if1 .left))
-    (pass _ _ (zero-yes s q 7 1 (byte-number s (q + 7) (omega arith)) (c .before .before .before .before .before .before .before .before .before .if2 .left))
-    (pass _ _ (sym (c .before .before .before .before .before .before .key-length .ensures ∙ ap keyLength (number-at s q 8 1 (byte-number s (q + 8) (omega arith)))) ∙ not-false _ (c .before .before .before .before .before .if3 .left))
-    (pass _ _ (sym (c .before .before .before .before .key-length2 .ensures ∙ ap keyLength (number-at s q 9 1 (byte-number s (q + 9) (omega arith)))) ∙ not-false _ (c .before .before .before .if4 .left))
-    (pass _ _ (le-leb (number (bytesAt (drop q s) 8 1)) (number (bytesAt (drop q s) 9 1)) (omega (arith, (number-at s q 8 1 (byte-number s (q + 8) (omega arith))), (number-at s q 9 1 (byte-number s (q + 9) (omega arith))), c .before .before .if5 .left)))
-    (stop _ _ (sym (c .before .variant-length .ensures (bytesAt (drop q s) 9 1) (bytesAt (drop q s) 11 k) (sym (number-at s q 9 1 (byte-number s (q + 9) (omega arith)))) (length-behind s q 11 k (omega arith) ∙ sym xe)) ∙ not-true _ (c .if6 .taken)))))))
+    (pass _ _ (zero-yes s q 7 1 b7 (c .before .before .before .before .before .before .before .before .before .if2 .left))
+    (pass _ _ (sym (c .before .before .before .before .before .before .key-length .ensures ∙ ap keyLength (number-at s q 8 1 b8)) ∙ not-false _ (c .before .before .before .before .before .if3 .left))
+    (pass _ _ (sym (c .before .before .before .before .key-length2 .ensures ∙ ap keyLength (number-at s q 9 1 b9)) ∙ not-false _ (c .before .before .before .if4 .left))
+    (pass _ _ (le-leb (number (bytesAt (drop q s) 8 1)) (number (bytesAt (drop q s) 9 1)) (omega (arith, (number-at s q 8 1 b8), (number-at s q 9 1 b9), c .before .before .if5 .left)))
+    (stop _ _ (sym (c .before .variant-length .ensures (bytesAt (drop q s) 9 1) (bytesAt (drop q s) 11 k) (sym (number-at s q 9 1 b9)) (length-behind s q 11 k (omega arith) ∙ sym xe)) ∙ not-true _ (c .if6 .taken)))))))
 
 control-length-requires : tie.Need-control-length-requires
 control-length-requires c κs = search needs
@@ -144,13 +156,16 @@ returns-7 c =
     let k = number (bytesAt (drop q s) 10 1) in
     let xe = c .before .before .before .before .before .before .before .before .before .before .before .before .before .before .before .before .pre .3 in
     let ce = c .before .before .before .before .before .before .before .before .before .before .before .before .before .before .before .before .pre .4 ∙ ap (λ (i : ℕ). number (bytesAt (drop q s) (11 + i) 1)) xe in
+    let b7 = byte-number s (q + 7) (omega arith) in
+    let b8 = byte-number s (q + 8) (omega arith) in
+    let b9 = byte-number s (q + 9) (omega arith) in
     let j = number (bytesAt (drop q s) (11 + k) 1) in
     pass _ _ (zero-yes s q 5 2 (c .before .before .before .before .before .before .before .before .before .before .before .before .before .before .two .ensures .0) (c .before .before .before .before .before .before .before .before .before .before .before .before .before .if1 .left))
-    (pass _ _ (zero-yes s q 7 1 (byte-number s (q + 7) (omega arith)) (c .before .before .before .before .before .before .before .before .before .before .before .if2 .left))
-    (pass _ _ (sym (c .before .before .before .before .before .before .before .before .key-length .ensures ∙ ap keyLength (number-at s q 8 1 (byte-number s (q + 8) (omega arith)))) ∙ not-false _ (c .before .before .before .before .before .before .before .if3 .left))
-    (pass _ _ (sym (c .before .before .before .before .before .before .key-length2 .ensures ∙ ap keyLength (number-at s q 9 1 (byte-number s (q + 9) (omega arith)))) ∙ not-false _ (c .before .before .before .before .before .if4 .left))
-    (pass _ _ (le-leb (number (bytesAt (drop q s) 8 1)) (number (bytesAt (drop q s) 9 1)) (omega (arith, (number-at s q 8 1 (byte-number s (q + 8) (omega arith))), (number-at s q 9 1 (byte-number s (q + 9) (omega arith))), c .before .before .before .before .if5 .left)))
-    (pass _ _ (sym (c .before .before .before .variant-length .ensures (bytesAt (drop q s) 9 1) (bytesAt (drop q s) 11 k) (sym (number-at s q 9 1 (byte-number s (q + 9) (omega arith)))) (length-behind s q 11 k (omega arith) ∙ sym xe)) ∙ not-false _ (c .before .before .if6 .left))
+    (pass _ _ (zero-yes s q 7 1 b7 (c .before .before .before .before .before .before .before .before .before .before .before .if2 .left))
+    (pass _ _ (sym (c .before .before .before .before .before .before .before .before .key-length .ensures ∙ ap keyLength (number-at s q 8 1 b8)) ∙ not-false _ (c .before .before .before .before .before .before .before .if3 .left))
+    (pass _ _ (sym (c .before .before .before .before .before .before .key-length2 .ensures ∙ ap keyLength (number-at s q 9 1 b9)) ∙ not-false _ (c .before .before .before .before .before .if4 .left))
+    (pass _ _ (le-leb (number (bytesAt (drop q s) 8 1)) (number (bytesAt (drop q s) 9 1)) (omega (arith, (number-at s q 8 1 b8), (number-at s q 9 1 b9), c .before .before .before .before .if5 .left)))
+    (pass _ _ (sym (c .before .before .before .variant-length .ensures (bytesAt (drop q s) 9 1) (bytesAt (drop q s) 11 k) (sym (number-at s q 9 1 b9)) (length-behind s q 11 k (omega arith) ∙ sym xe)) ∙ not-false _ (c .before .before .if6 .left))
     (stop _ _ (sym (c .before .control-length .ensures (bytesAt (drop q s) (11 + k + 1) j) (length-behind s q (11 + k + 1) j (omega arith) ∙ sym ce)) ∙ not-true _ (c .if7 .taken))))))))
 
 returns-8 : tie.Need-returns-8
@@ -162,13 +177,16 @@ returns-8 c =
     let k = number (bytesAt (drop q s) 10 1) in
     let xe = c .before .before .before .before .before .before .before .before .before .before .before .before .before .before .before .before .pre .3 in
     let ce = c .before .before .before .before .before .before .before .before .before .before .before .before .before .before .before .before .pre .4 ∙ ap (λ (i : ℕ). number (bytesAt (drop q s) (11 + i) 1)) xe in
+    let b7 = byte-number s (q + 7) (omega arith) in
+    let b8 = byte-number s (q + 8) (omega arith) in
+    let b9 = byte-number s (q + 9) (omega arith) in
     let j = number (bytesAt (drop q s) (11 + k) 1) in
     pass _ _ (zero-yes s q 5 2 (c .before .before .before .before .before .before .before .before .before .before .before .before .before .before .two .ensures .0) (c .before .before .before .before .before .before .before .before .before .before .before .before .before .if1 .left))
-    (pass _ _ (zero-yes s q 7 1 (byte-number s (q + 7) (omega arith)) (c .before .before .before .before .before .before .before .before .before .before .before .if2 .left))
-    (pass _ _ (sym (c .before .before .before .before .before .before .before .before .key-length .ensures ∙ ap keyLength (number-at s q 8 1 (byte-number s (q + 8) (omega arith)))) ∙ not-false _ (c .before .before .before .before .before .before .before .if3 .left))
-    (pass _ _ (sym (c .before .before .before .before .before .before .key-length2 .ensures ∙ ap keyLength (number-at s q 9 1 (byte-number s (q + 9) (omega arith)))) ∙ not-false _ (c .before .before .before .before .before .if4 .left))
-    (pass _ _ (le-leb (number (bytesAt (drop q s) 8 1)) (number (bytesAt (drop q s) 9 1)) (omega (arith, (number-at s q 8 1 (byte-number s (q + 8) (omega arith))), (number-at s q 9 1 (byte-number s (q + 9) (omega arith))), c .before .before .before .before .if5 .left)))
-    (pass _ _ (sym (c .before .before .before .variant-length .ensures (bytesAt (drop q s) 9 1) (bytesAt (drop q s) 11 k) (sym (number-at s q 9 1 (byte-number s (q + 9) (omega arith)))) (length-behind s q 11 k (omega arith) ∙ sym xe)) ∙ not-false _ (c .before .before .if6 .left))
+    (pass _ _ (zero-yes s q 7 1 b7 (c .before .before .before .before .before .before .before .before .before .before .before .if2 .left))
+    (pass _ _ (sym (c .before .before .before .before .before .before .before .before .key-length .ensures ∙ ap keyLength (number-at s q 8 1 b8)) ∙ not-false _ (c .before .before .before .before .before .before .before .if3 .left))
+    (pass _ _ (sym (c .before .before .before .before .before .before .key-length2 .ensures ∙ ap keyLength (number-at s q 9 1 b9)) ∙ not-false _ (c .before .before .before .before .before .if4 .left))
+    (pass _ _ (le-leb (number (bytesAt (drop q s) 8 1)) (number (bytesAt (drop q s) 9 1)) (omega (arith, (number-at s q 8 1 b8), (number-at s q 9 1 b9), c .before .before .before .before .if5 .left)))
+    (pass _ _ (sym (c .before .before .before .variant-length .ensures (bytesAt (drop q s) 9 1) (bytesAt (drop q s) 11 k) (sym (number-at s q 9 1 b9)) (length-behind s q 11 k (omega arith) ∙ sym xe)) ∙ not-false _ (c .before .before .if6 .left))
     (pass _ _ (sym (c .before .control-length .ensures (bytesAt (drop q s) (11 + k + 1) j) (length-behind s q (11 + k + 1) j (omega arith) ∙ sym ce)) ∙ not-false _ (c .if7 .left))
     (none)))))))
 
