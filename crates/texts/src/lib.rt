@@ -4,7 +4,7 @@ ghost use mathlib.Core.List.{_++_, _∷_, []};
 ghost use Prim.Native.Nat.{_+_, _<_, _≤_, max};
 ghost use lib.ListN.{length};
 ghost use Rattle.format.specs.Lines.{digitText, idText, tagText};
-ghost use Rattle.listing.specs.Numerals.{digitCount, numeral};
+ghost use Rattle.texts.specs.Numerals.{digitCount, numeral};
 ghost use Rattle.storing.specs.Storing.{Stored};
 use storing::put;
 
@@ -47,14 +47,7 @@ fn digit_places(n: u32, base: u32, width: usize) -> usize
 }
 
 // A number in a base with at least `width` digits, from the place `at` on, and the byte `end` behind it.
-pub(crate) fn put_number(
-    line: &mut [u8],
-    at: usize,
-    n: u32,
-    base: u32,
-    width: usize,
-    end: u8,
-) -> usize
+pub fn put_number(line: &mut [u8], at: usize, n: u32, base: u32, width: usize, end: u8) -> usize
     requires { ⌜ (10 ≤ base) × (base ≤ 16) × (width ≤ 10) × (at + 11 ≤ length (now line)) ⌝ }
     ensures { λ r. ⌜ Stored (now (line .entry)) at (numeral base width n ++ (end ∷ [])) (now (line .exit)) r ⌝ }
     ensures short { λ r. ⌜ r ≤ at + 11 ⌝ }
@@ -72,7 +65,7 @@ pub(crate) fn put_number(
 }
 
 // The word for a token's id, and a space behind it.
-pub(crate) fn put_id(line: &mut [u8], at: usize, id: u8) -> usize
+pub fn put_id(line: &mut [u8], at: usize, id: u8) -> usize
     requires { ⌜ at + 9 ≤ length (now line) ⌝ }
     ensures { λ r. ⌜ Stored (now (line .entry)) at (idText id ++ (32 ∷ [])) (now (line .exit)) r ⌝ }
     ensures short { λ r. ⌜ r ≤ at + 9 ⌝ }
@@ -85,7 +78,7 @@ pub(crate) fn put_id(line: &mut [u8], at: usize, id: u8) -> usize
 }
 
 // A tag in four digits, - for a section, and a space behind it.
-pub(crate) fn put_tag(line: &mut [u8], at: usize, tag: u32) -> usize
+pub fn put_tag(line: &mut [u8], at: usize, tag: u32) -> usize
     requires { ⌜ at + 11 ≤ length (now line) ⌝ }
     ensures { λ r. ⌜ Stored (now (line .entry)) at (tagText tag ++ (32 ∷ [])) (now (line .exit)) r ⌝ }
     ensures short { λ r. ⌜ r ≤ at + 11 ⌝ }

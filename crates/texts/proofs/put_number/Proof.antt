@@ -9,13 +9,13 @@ use lib.ListN.{length, length-set}
 use borrow.Author.Needs.{needs}
 use Rattle.format.specs.Lines.{digitText}
 use Rattle.storing.specs.Storing.{Stored}
-use Rattle.listing.specs.Numerals.{digitCount, numeral}
+use Rattle.texts.specs.Numerals.{digitCount, numeral}
 use Rattle.storing.proofs.Stores.{stored-then, byte-stored}
-use Rattle.listing.proofs.Stores.{digit-turn, digits-end}
-use Rattle.listing.proofs.Numerals.{numeral-last, numeral-length}
-use Rattle.listing.proofs.Digits.{lastDigits}
-use Rattle.listing.proofs.texts.put_number.Statement.{statement}
-use Rattle.listing.proofs.texts.put_number.Tie as tie
+use Rattle.texts.proofs.Stores.{digit-turn, digits-end}
+use Rattle.texts.proofs.Numerals.{numeral-last, numeral-length}
+use Rattle.texts.proofs.Digits.{lastDigits}
+use Rattle.texts.proofs.put_number.Statement.{statement}
+use Rattle.texts.proofs.put_number.Tie as tie
 
 abbrev Inv-loop : tie.InvT-loop
 Inv-loop line₀ at n base width end e rest₀ k₀ line rest k =

@@ -5,9 +5,9 @@ use Prim.Native.Nat.{ℕ}
 use borrow.Author.Needs.{needs}
 use Rattle.format.specs.Lines.{tagText}
 use Rattle.storing.proofs.Stores.{stored-as}
-use Rattle.listing.proofs.Lines.{tag-is}
-use Rattle.listing.proofs.texts.put_tag.Statement.{statement}
-use Rattle.listing.proofs.texts.put_tag.Tie as tie
+use Rattle.texts.proofs.Words.{tag-is}
+use Rattle.texts.proofs.put_tag.Statement.{statement}
+use Rattle.texts.proofs.put_tag.Tie as tie
 
 slice-aggregate-put : tie.Need-slice-aggregate-put
 slice-aggregate-put c = search needs

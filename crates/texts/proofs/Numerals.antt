@@ -7,8 +7,8 @@ use native.Mathlib.Omega.{arith}
 use lib.Dec.{lit≤}
 use lib.ListN.{length, replicate, length-append, length-map}
 use Rattle.format.specs.Lines.{digits, digitText, decimal, hexadecimal}
-use Rattle.listing.specs.Numerals.{digitCount, numeral}
-use Rattle.listing.proofs.Digits.{lastDigits, length-last, digits-one, digits-more, same-turns, rest-below, digits-last, digits-hold, digits-few, digits-some, zeros-last}
+use Rattle.texts.specs.Numerals.{digitCount, numeral}
+use Rattle.texts.proofs.Digits.{lastDigits, length-last, digits-one, digits-more, same-turns, rest-below, digits-last, digits-hold, digits-few, digits-some, zeros-last}
 
 -- ---- how many digits
 

@@ -4,10 +4,10 @@ use Prim.Native.Nat.{_+_, _≤_}
 use native.Mathlib.Omega.{arith}
 use native.Mathlib.Nat.{div-lt-self}
 use borrow.Author.Needs.{needs}
-use Rattle.listing.specs.Numerals.{digitCount}
-use Rattle.listing.proofs.Numerals.{count-one, count-more, count-some, count-ten}
-use Rattle.listing.proofs.texts.digit_count.Statement.{statement}
-use Rattle.listing.proofs.texts.digit_count.Tie as tie
+use Rattle.texts.specs.Numerals.{digitCount}
+use Rattle.texts.proofs.Numerals.{count-one, count-more, count-some, count-ten}
+use Rattle.texts.proofs.digit_count.Statement.{statement}
+use Rattle.texts.proofs.digit_count.Tie as tie
 
 abbrev Inv-loop : tie.InvT-loop
 Inv-loop n base rest₀ k₀ rest k = (digitCount base n ≤ 10) × (k + digitCount base rest ≡ digitCount base n + 1)

@@ -8,7 +8,7 @@ use lib.ListN.{length, set, length-map}
 use lib.Seq.{sets}
 use Rattle.format.specs.Lines.{digitText}
 use Rattle.storing.proofs.Stores.{sets-last}
-use Rattle.listing.proofs.Digits.{lastDigits, length-last}
+use Rattle.texts.proofs.Digits.{lastDigits, length-last}
 
 -- one more digit of it
 pub digit-turn : (l : List ℕ) (at k b n x : ℕ) → at < k → x ≡ digitText (n % b)

@@ -5,9 +5,9 @@ use Prim.Native.Nat.{ℕ}
 use borrow.Author.Needs.{needs}
 use Rattle.format.specs.Lines.{idText}
 use Rattle.storing.proofs.Stores.{stored-as}
-use Rattle.listing.proofs.Lines.{id-unknown}
-use Rattle.listing.proofs.texts.put_id.Statement.{statement}
-use Rattle.listing.proofs.texts.put_id.Tie as tie
+use Rattle.texts.proofs.Words.{id-unknown}
+use Rattle.texts.proofs.put_id.Statement.{statement}
+use Rattle.texts.proofs.put_id.Tie as tie
 
 slice-aggregate-put : tie.Need-slice-aggregate-put
 slice-aggregate-put c = search needs

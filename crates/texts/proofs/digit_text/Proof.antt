@@ -4,9 +4,9 @@ use Prim.Native.Nat.{_+_}
 use lib.Dec.{ltb}
 use borrow.Author.Tests.{lt-ltb, le-ltb}
 use borrow.Author.Needs.{needs}
-use Rattle.listing.proofs.Buffers.{first-of, second-of}
-use Rattle.listing.proofs.texts.digit_text.Statement.{statement}
-use Rattle.listing.proofs.texts.digit_text.Tie as tie
+use Rattle.format.proofs.Grouping.{is-true, is-false}
+use Rattle.texts.proofs.digit_text.Statement.{statement}
+use Rattle.texts.proofs.digit_text.Tie as tie
 
 cast-result : tie.Need-cast-result
 cast-result c = search needs
@@ -26,12 +26,12 @@ add-result-2 c = search needs
 returns : tie.Need-returns
 returns c =
     let d = c .before .args .d in
-    sym (first-of (ltb d 10) (0x30 + d) (0x37 + d) (lt-ltb d 10 (c .if1 .taken)))
+    sym (is-true (ltb d 10) (0x30 + d) (0x37 + d) (lt-ltb d 10 (c .if1 .taken)))
 
 returns-2 : tie.Need-returns-2
 returns-2 c =
     let d = c .before .args .d in
-    sym (second-of (ltb d 10) (0x30 + d) (0x37 + d) (le-ltb d 10 (c .if1 .left)))
+    sym (is-false (ltb d 10) (0x30 + d) (0x37 + d) (le-ltb d 10 (c .if1 .left)))
 
 pub digit-text-spec : {M : Type 1} → statement M
 digit-text-spec =
