@@ -3,7 +3,7 @@ use mathlib.Core.Path.{_≡_, refl, sym, ap, _∙_}
 use mathlib.Core.Bool.{Bool, true, false, _||_, and-false, or-true, true≢false}
 use mathlib.Core.Logic.{_⊎_, inl, inr, ⊎-elim}
 use native.Mathlib.Nat.{eq-or-lt-of-le}
-use Prim.Native.Nat.{ℕ, _-_, _<_, _≤_}
+use Prim.Native.Nat.{ℕ, _<_, _≤_}
 use native.Mathlib.Omega.{arith}
 use lib.Dec.{eqb, leb, ltb}
 use borrow.Author.Tests.{eq-eqb, ne-eqb, le-leb, lt-leb, leb-true, leb-false, ltb-true, ltb-false, eqb-true}
@@ -23,11 +23,11 @@ early lo hi b h = rw (lt-leb lo b h)
 
 -- ---- the class of each character
 
-pub here : {t : Bool} (k later : ℕ) → t ≡ true → k ≡ pick t k later
+here : {t : Bool} (k later : ℕ) → t ≡ true → k ≡ pick t k later
 unfolding pick
 here k later e = rw e
 
-pub skip : {t : Bool} {r : ℕ} (k later : ℕ) → t ≡ false → r ≡ later → r ≡ pick t k later
+skip : {t : Bool} {r : ℕ} (k later : ℕ) → t ≡ false → r ≡ later → r ≡ pick t k later
 unfolding pick
 skip k later e f = rw e f
 

@@ -12,6 +12,19 @@ use Rattle.format.specs.Forms.{exponentForm}
 use Rattle.fields.proofs.Order.{front-zero, front-some, below-all}
 use Rattle.fields.proofs.Sizes.{odd-last}
 
+-- the n bytes at i: the last m of them, and those in front
+module _ (s : List ℕ) (i n m : ℕ) (h : m ≤ n) (l : i + n ≤ length s) where
+  parted : number (bytesAt s i ((n - m) + m)) ≡ number (bytesAt s i n)
+  parted = let e : (n - m) + m ≡ n = omega arith in ap (λ (k : ℕ). number (bytesAt s i k)) e
+
+  -- zeros in front change nothing
+  zeros-front : allZero (bytesAt s i (n - m)) ≡ true → number (bytesAt s i n) ≡ number (bytesAt s (i + (n - m)) m)
+  zeros-front t = sym parted ∙ front-zero s i (n - m) m (omega arith) t
+
+  -- with anything else there the number is too large for m bytes
+  some-front : allZero (bytesAt s i (n - m)) ≡ false → 256 ^ m ≤ number (bytesAt s i n)
+  some-front t = let f = front-some s i (n - m) m (omega arith) t in let e = parted in omega arith
+
 -- the exponent in the x bytes at i, the modulus in the y bytes at j
 module _ (s : List ℕ) (i x j y : ℕ) (fits : i + x ≤ length s) (holds : j + y ≤ length s) (some : 1 ≤ x) where
   exponent-odd : exponentForm (bytesAt s i x) (bytesAt s j y)
@@ -33,30 +46,21 @@ module _ (s : List ℕ) (i x j y : ℕ) (fits : i + x ≤ length s) (holds : j +
         → r ≡ ltb (number (bytesAt s (i + (x - y)) y)) (number (bytesAt s j y))
         → r ≡ exponentForm (bytesAt s i x) (bytesAt s j y)
     exponent-long h t r =
-        let e : (x - y) + y ≡ x = omega arith in
-        let z : number (bytesAt s i x) ≡ number (bytesAt s (i + (x - y)) y)
-        = ap (λ (n : ℕ). number (bytesAt s i n)) (sym e) ∙ front-zero s i (x - y) y (omega arith) t in
-        r ∙ sym (order-left ∙ ap (λ (v : ℕ). ltb v (number (bytesAt s j y))) z)
+        r ∙ sym (order-left ∙ ap (λ (v : ℕ). ltb v (number (bytesAt s j y))) (zeros-front s i x y (omega arith) fits t))
 
     -- the modulus is as long or longer, and has zeros in front
     pub exponent-short : {r : Bool} → x ≤ y → allZero (bytesAt s j (y - x)) ≡ true
         → r ≡ ltb (number (bytesAt s i x)) (number (bytesAt s (j + (y - x)) x))
         → r ≡ exponentForm (bytesAt s i x) (bytesAt s j y)
     exponent-short h t r =
-        let e : (y - x) + x ≡ y = omega arith in
-        let z : number (bytesAt s j y) ≡ number (bytesAt s (j + (y - x)) x)
-        = ap (λ (n : ℕ). number (bytesAt s j n)) (sym e) ∙ front-zero s j (y - x) x (omega arith) t in
-        r ∙ sym (order-left ∙ ap (λ (v : ℕ). ltb (number (bytesAt s i x)) v) z)
+        r ∙ sym (order-left ∙ ap (λ (v : ℕ). ltb (number (bytesAt s i x)) v) (zeros-front s j y x h holds t))
 
     module _ (small : (k : ℕ) → getD s k 0 < 256) where
       -- the exponent is longer, and has something else in front
       pub exponent-more : y < x → allZero (bytesAt s i (x - y)) ≡ false
           → exponentForm (bytesAt s i x) (bytesAt s j y) ≡ false
       exponent-more h t =
-          let e : (x - y) + y ≡ x = omega arith in
-          let m : 256 ^ y ≤ number (bytesAt s i ((x - y) + y)) = front-some s i (x - y) y (omega arith) t in
-          let z : number (bytesAt s i ((x - y) + y)) ≡ number (bytesAt s i x)
-          = ap (λ (n : ℕ). number (bytesAt s i n)) e in
+          let m = some-front s i x y (omega arith) fits t in
           order-left ∙ le-ltb (number (bytesAt s i x)) (number (bytesAt s j y))
           (omega (arith, below-all s small j y holds))
 
@@ -64,9 +68,6 @@ module _ (s : List ℕ) (i x j y : ℕ) (fits : i + x ≤ length s) (holds : j +
       pub exponent-less : x ≤ y → allZero (bytesAt s j (y - x)) ≡ false
           → exponentForm (bytesAt s i x) (bytesAt s j y) ≡ true
       exponent-less h t =
-          let e : (y - x) + x ≡ y = omega arith in
-          let m : 256 ^ x ≤ number (bytesAt s j ((y - x) + x)) = front-some s j (y - x) x (omega arith) t in
-          let z : number (bytesAt s j ((y - x) + x)) ≡ number (bytesAt s j y)
-          = ap (λ (n : ℕ). number (bytesAt s j n)) e in
+          let m = some-front s j y x h holds t in
           order-left ∙ lt-ltb (number (bytesAt s i x)) (number (bytesAt s j y))
           (omega (arith, below-all s small i x fits))

@@ -39,7 +39,7 @@ unfolding bytesAt
 bytes-length s i n h = length-take-le n (drop i s) (rw length-drop (omega arith))
 
 -- the first n of them, and the m after those
-pub bytes-join : (s : List ℕ) (i n m : ℕ) → bytesAt s i (n + m) ≡ bytesAt s i n ++ bytesAt s (i + n) m
+bytes-join : (s : List ℕ) (i n m : ℕ) → bytesAt s i (n + m) ≡ bytesAt s i n ++ bytesAt s (i + n) m
 unfolding bytesAt
 bytes-join s i n m = take-add n m (drop i s) ∙ ap (λ (l : List ℕ). take n (drop i s) ++ take m l) (drop-drop n i s)
 
@@ -95,7 +95,7 @@ from-append : (xs ys : List ℕ) (a : ℕ) → numberFrom a (xs ++ ys) ≡ numbe
 from-append [] ys a = refl
 from-append (x ∷ xs) ys a = from-append xs ys (a * 256 + x)
 
-pub number-append : (xs ys : List ℕ) → number (xs ++ ys) ≡ number xs * 256 ^ length ys + number ys
+number-append : (xs ys : List ℕ) → number (xs ++ ys) ≡ number xs * 256 ^ length ys + number ys
 unfolding number
 number-append xs ys = from-append xs ys 0 ∙ from-weight ys (numberFrom 0 xs)
 

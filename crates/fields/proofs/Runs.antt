@@ -24,7 +24,7 @@ leading-stop : (f : ℕ → Bool) (b : ℕ) (bs : List ℕ) → f b ≡ false �
 leading-stop f b bs t = rw (t, leading)
 
 -- two tests that agree
-pub leading-same : (f g : ℕ → Bool) → ((b : ℕ) → f b ≡ g b) → (bs : List ℕ) → leading f bs ≡ leading g bs
+leading-same : (f g : ℕ → Bool) → ((b : ℕ) → f b ≡ g b) → (bs : List ℕ) → leading f bs ≡ leading g bs
 leading-same f g same [] = refl
 leading-same f g same (b ∷ bs) =
     ⊎-elim (λ t. leading-more f b bs (same b ∙ t) ∙ ap suc (leading-same f g same bs) ∙ sym (leading-more g b bs t))
@@ -32,7 +32,7 @@ leading-same f g same (b ∷ bs) =
     (yes-or-no (g b))
 
 -- every byte passes where the run is as long as the list
-pub every-leading : (f : ℕ → Bool) (bs : List ℕ) → every f bs ≡ eqb (leading f bs) (length bs)
+every-leading : (f : ℕ → Bool) (bs : List ℕ) → every f bs ≡ eqb (leading f bs) (length bs)
 every-leading f [] = refl
 every-leading f (b ∷ bs) =
     ⊎-elim
@@ -73,23 +73,20 @@ many-no : (f : ℕ → Bool) (b : ℕ) (bs : List ℕ) → f b ≡ false → how
 many-no f b bs t = rw (t, howMany)
 
 module _ (f : ℕ → Bool) (s : List ℕ) (p e n : ℕ) where
+  -- the byte at p counts k times
+  counted : (k : ℕ) → p < e → e ≤ length s → ((bs : List ℕ) → howMany f (getD s p 0 ∷ bs) ≡ k + howMany f bs)
+      → (n + k) + howMany f (bytesAt s (p + 1) (e - (p + 1))) ≡ n + howMany f (bytesAt s p (e - p))
+  counted k h l t = let m = ap (howMany f) (bytes-next s p e h l) ∙ t (bytesAt s (p + 1) (e - (p + 1))) in omega arith
+
   -- the byte at p passes
   pub count-more : p < e → e ≤ length s → f (getD s p 0) ≡ true
       → (n + 1) + howMany f (bytesAt s (p + 1) (e - (p + 1))) ≡ n + howMany f (bytesAt s p (e - p))
-  count-more h l t =
-      let rest = bytesAt s (p + 1) (e - (p + 1)) in
-      let m : howMany f (bytesAt s p (e - p)) ≡ 1 + howMany f rest
-      = ap (howMany f) (bytes-next s p e h l) ∙ many-yes f (getD s p 0) rest t in
-      omega arith
+  count-more h l t = counted 1 h l (λ bs. many-yes f (getD s p 0) bs t)
 
   -- the byte at p does not pass
   pub count-same : p < e → e ≤ length s → f (getD s p 0) ≡ false
       → n + howMany f (bytesAt s (p + 1) (e - (p + 1))) ≡ n + howMany f (bytesAt s p (e - p))
-  count-same h l t =
-      let rest = bytesAt s (p + 1) (e - (p + 1)) in
-      let m : howMany f (bytesAt s p (e - p)) ≡ 0 + howMany f rest
-      = ap (howMany f) (bytes-next s p e h l) ∙ many-no f (getD s p 0) rest t in
-      omega arith
+  count-same h l t = let c = counted 0 h l (λ bs. many-no f (getD s p 0) bs t) in omega arith
 
   -- the end is reached
   pub count-done : e ≤ p → n ≡ n + howMany f (bytesAt s p (e - p))
@@ -98,7 +95,7 @@ module _ (f : ℕ → Bool) (s : List ℕ) (p e n : ℕ) where
 -- ---- characters, then spaces
 
 -- every byte from p to e is a space exactly when the run of spaces ends at e
-pub spaces-run : (s : List ℕ) (p e : ℕ) {q : ℕ} → p ≤ e → e ≤ length s
+spaces-run : (s : List ℕ) (p e : ℕ) {q : ℕ} → p ≤ e → e ≤ length s
     → q ≡ p + leading (ofClass 5 5) (bytesAt s p (e - p)) → every space (bytesAt s p (e - p)) ≡ eqb q e
 spaces-run s p e {q} h l r =
     let m = leading (ofClass 5 5) (bytesAt s p (e - p)) in

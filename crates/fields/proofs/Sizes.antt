@@ -88,7 +88,7 @@ bytes-bits (suc m) =
 
 module _ (s : List ℕ) (small : (k : ℕ) → getD s k 0 < 256) (i n : ℕ) (fits : i + n ≤ length s) where
   -- without the bytes after the first, the number is the first byte
-  pub first-byte : 1 ≤ n → number (bytesAt s i n) / 2 ^ (8 * (n - 1)) ≡ getD s i 0
+  first-byte : 1 ≤ n → number (bytesAt s i n) / 2 ^ (8 * (n - 1)) ≡ getD s i 0
   first-byte h =
       let rest = bytesAt s (i + 1) ((i + n) - (i + 1)) in
       let z : (i + n) - (i + 1) ≡ n - 1 = omega arith in
@@ -103,7 +103,7 @@ module _ (s : List ℕ) (small : (k : ℕ) → getD s k 0 < 256) (i n : ℕ) (fi
       ∙ digits-div (getD s i 0) b
 
   -- the bits of the first byte tell how many bits are significant
-  pub bits-first : (bits : ℕ) → 1 ≤ bits → n ≡ (bits + 7) / 8
+  bits-first : (bits : ℕ) → 1 ≤ bits → n ≡ (bits + 7) / 8
       → significantBits bits (number (bytesAt s i n)) ≡ eqb (getD s i 0 / 2 ^ ((bits - 1) % 8)) 1
   bits-first bits h e =
       let v = number (bytesAt s i n) in

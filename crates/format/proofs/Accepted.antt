@@ -134,7 +134,7 @@ good-lawful full i ss k g =
       masks = rw back (all-map (GoodSection full x) (λ (s : Section). maskCovers (s .subs) ≡ true) (λ s q. q .masks) ss (g .each));
     }
 
-pub good-complete : (x : Bool) (ss : List Section) → GoodSections true x ss → kindBefore information ss ≡ true → Complete (partsOf ss)
+good-complete : (x : Bool) (ss : List Section) → GoodSections true x ss → kindBefore information ss ≡ true → Complete (partsOf ss)
 good-complete x ss g k =
     let back : sectionsOf (partsOf ss) ≡ ss = group-flat ss (grouped true x ss (g .each)) in
     record {

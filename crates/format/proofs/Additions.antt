@@ -1,24 +1,23 @@
 -- What an accepted addition makes of any lent draft: the added bytes, the header's length and, for a subsection, its
 -- section's length; every other byte stays.
 use mathlib.Core.Path.{_≡_, refl, sym, ap, ap₂, _∙_}
-use mathlib.Core.Bool.{Bool, true, false, not, _&&_, _||_}
+use mathlib.Core.Bool.{true, false, _&&_}
 use mathlib.Core.List.{List, [], _∷_, _++_, append-assoc}
 use Prim.Native.Nat.{ℕ, _+_}
 use native.Mathlib.Omega.{arith}
-use lib.Dec.{eqb, leb}
+use lib.Dec.{leb}
 use lib.ListN.{length, take, drop, length-append, take-append-drop}
 use lib.Seq.{drop-at}
-use borrow.Author.Tests.{eqb-true}
 use Rattle.format.specs.Bytes.{Bytes}
 use Rattle.format.specs.Layout.{fits, write}
-use Rattle.format.specs.Parts.{sectionId, isSubsection, layout, Part, size, span, writeParts, written, joins, header}
+use Rattle.format.specs.Parts.{isSubsection, layout, Part, size, span, writeParts, written, joins, header}
 use Rattle.format.specs.Rules.{external, Section}
 use Rattle.format.specs.Reading.{found, idOf, stated, reading, partsOf}
 use Rattle.format.specs.Writer.{longer, addition}
-use Rattle.format.proofs.Finding.{and-split, sectionId-pos}
+use Rattle.format.proofs.Finding.{sectionId-pos}
 use Rattle.format.proofs.Unique.{written-length}
 use Rattle.format.proofs.Tests.{needed, found-inj, followed}
-use Rattle.format.proofs.Grouping.{all-split, parts-last, parts-then-section, span-le}
+use Rattle.format.proofs.Grouping.{all-split, joins-first, parts-last, parts-then-section, span-le}
 use Rattle.format.proofs.Sound.{GoodSection, subs-of}
 use Rattle.format.proofs.Complete.{part-stated}
 use Rattle.format.proofs.Accepted.{reading-sound, good-choice, good-lawful}
@@ -46,7 +45,7 @@ pub record Passed (d : List ℕ) (p : Part) (bs : List ℕ) : Type 0 where
   pub joins : joins 0 (partsOf sections ++ p ∷ []) ≡ true
   pub form : written (idOf d) (partsOf sections ++ p ∷ []) ≡ bs
 
-pub addition-passed : (d : List ℕ) (p : Part) (bs : List ℕ) → addition (p .kind) (p .fields) d ≡ found bs → Passed d p bs
+addition-passed : (d : List ℕ) (p : Part) (bs : List ℕ) → addition (p .kind) (p .fields) d ≡ found bs → Passed d p bs
 unfolding addition
 addition-passed d p bs e =
     let f = followed (reading false d) _ bs e in
@@ -78,10 +77,7 @@ last-of s (q ∷ ss) = let i = last-of q ss in (s ∷ i .0, i .1, ap (λ (y : Li
 -- A subsection joins some section.
 joined : (p : Part) (ss : List Section) → isSubsection (p .kind) ≡ true → joins 0 (partsOf ss ++ p ∷ []) ≡ true
     → (ts : List Section) × (t : Section) × (ss ≡ ts ++ t ∷ [])
-joined p [] f j =
-    let a = and-split (not (isSubsection (p .kind)) || eqb (sectionId (p .kind)) 0) true j .0 in
-    let b : eqb (sectionId (p .kind)) 0 ≡ true = sym (ap (λ (v : Bool). not v || eqb (sectionId (p .kind)) 0) f) ∙ a in
-    absurd (let c = eqb-true (sectionId (p .kind)) 0 b in let z = sectionId-pos (p .kind) in omega arith)
+joined p [] f j = absurd (let c = joins-first 0 p [] j f in let z = sectionId-pos (p .kind) in omega arith)
 joined p (s ∷ ss) f j = last-of s ss
 
 -- The last section of a draft stands behind the others, and states its length there.

@@ -13,7 +13,7 @@ use Rattle.format.specs.Parts.{Kind, exportParameters, tokenParameters, 
 use Rattle.format.specs.Rules.{external, checks, Section, frontSubs, sectionsOf, ofKind, each, mayBothStand, otherKind, maskCovers}
 use Rattle.format.specs.Legal.{Pairwise, Lawful}
 use Rattle.format.proofs.Numbers.{bytes-append, bytes-bigEndian, bytes-zeros}
-use Rattle.format.proofs.Finding.{and-split, and-join}
+use Rattle.format.proofs.Finding.{and-split, and-join, or-map}
 use Rattle.format.proofs.Tests.{Hold}
 use Rattle.format.proofs.Unique.{written-length}
 use Rattle.format.proofs.Reaching.{sizes, sizes-written}
@@ -27,7 +27,7 @@ first-bytes [] h = (tt, tt)
 first-bytes (f ∷ fs) h = (h .0, h .1)
 
 -- What is written from bytes is bytes.
-pub write-bytes : (l : List Item) (t : ℕ) (fs : Fields) → All Bytes fs → Bytes (write t l fs)
+write-bytes : (l : List Item) (t : ℕ) (fs : Fields) → All Bytes fs → Bytes (write t l fs)
 write-bytes [] t fs h = tt
 write-bytes (code w v ∷ l) t fs h = bytes-append (bigEndian w v) (write t l fs) (bytes-bigEndian w v) (write-bytes l t fs h)
 write-bytes (zeros n q ∷ l) t fs h = bytes-append (replicate n 0) (write t l fs) (bytes-zeros n) (write-bytes l t fs h)
@@ -42,7 +42,7 @@ write-bytes (counted c ∷ l) t fs h =
     let f = first-bytes fs h in
     bytes-append (getD fs 0 []) (write t l (drop 1 fs)) (f .0) (write-bytes l t (drop 1 fs) (f .1))
 
-pub parts-bytes : (ps : List Part) → All (λ (p : Part). All Bytes (p .fields)) ps → Bytes (writeParts ps)
+parts-bytes : (ps : List Part) → All (λ (p : Part). All Bytes (p .fields)) ps → Bytes (writeParts ps)
 parts-bytes [] h = tt
 parts-bytes (p ∷ ps) h =
     bytes-append (write (span p ps) (layout (p .kind)) (p .fields)) (writeParts ps)
@@ -54,7 +54,7 @@ written-bytes i ps h b =
     (write-bytes header (8 + length (writeParts ps)) ((i ∷ []) ∷ []) ((h, tt), tt)) (parts-bytes ps b)
 
 -- Sizes of two lists.
-pub sizes-join : (ps qs : List Part) → sizes (ps ++ qs) ≡ sizes ps + sizes qs
+sizes-join : (ps qs : List Part) → sizes (ps ++ qs) ≡ sizes ps + sizes qs
 sizes-join [] qs = omega arith
 sizes-join (p ∷ ps) qs = let i = sizes-join ps qs in omega arith
 
@@ -81,7 +81,7 @@ beginning-le i ps qs =
 -- ---- rules of beginnings
 
 -- A beginning joins as the whole does.
-pub joins-front : (o : ℕ) (ps qs : List Part) → joins o (ps ++ qs) ≡ true → joins o ps ≡ true
+joins-front : (o : ℕ) (ps qs : List Part) → joins o (ps ++ qs) ≡ true → joins o ps ≡ true
 joins-front o [] qs e = refl
 joins-front o (p ∷ ps) qs e =
     let s = and-split (not (isSubsection (p .kind)) || eqb (sectionId (p .kind)) o) (joins (sectionId (p .kind)) (ps ++ qs)) e in
@@ -96,7 +96,7 @@ choice-front i ps qs c = record {
 }
 
 -- The front of a list in which any two pass a test.
-pub pairwise-front : {A : Type 0} (f : A → A → Bool) (xs ys : List A) → Pairwise f (xs ++ ys) → Pairwise f xs
+pairwise-front : {A : Type 0} (f : A → A → Bool) (xs ys : List A) → Pairwise f (xs ++ ys) → Pairwise f xs
 pairwise-front f [] ys h = tt
 pairwise-front f (x ∷ xs) ys h = (all-split (λ y. f x y ≡ true) xs ys (h .0) .0, pairwise-front f xs ys (h .1))
 
@@ -128,7 +128,7 @@ module _ (P : List Part → Type 0) (front : (us vs : List Part) → P (us ++ vs
       let f = fronts ps qs in
       (front (frontSubs ps) (f .0) (subst P (f .1) (h .0)), ih (h .1))
 
-  pub sections-front : (ps qs : List Part) → All (λ (s : Section). P (s .subs)) (sectionsOf (ps ++ qs))
+  sections-front : (ps qs : List Part) → All (λ (s : Section). P (s .subs)) (sectionsOf (ps ++ qs))
       → All (λ (s : Section). P (s .subs)) (sectionsOf ps)
   sections-front [] qs h = tt
   sections-front (p ∷ ps) qs h = sections-cons p ps qs (isSubsection (p .kind)) (λ k. sections-front ps qs k) h
@@ -171,7 +171,8 @@ each-front : (f : Part → Bool) (us vs : List Part) → each f (us ++ vs) ≡ t
 each-front f [] vs e = refl
 each-front f (u ∷ us) vs e = let s = and-split (f u) (each f (us ++ vs)) e in and-join _ _ (s .0) (each-front f us vs (s .1))
 
-kind-join : (k : Kind) (us vs : List Part) → ofKind k (us ++ vs) ≡ ofKind k us ++ ofKind k vs
+-- The parts of a kind in two lists, one behind the other.
+pub kind-join : (k : Kind) (us vs : List Part) → ofKind k (us ++ vs) ≡ ofKind k us ++ ofKind k vs
 kind-join k [] vs = refl
 kind-join k (u ∷ us) vs = go (sameKind k (u .kind)) (kind-join k us vs)
   where
@@ -185,16 +186,12 @@ each-map : (f g : Part → Bool) → ((p : Part) → f p ≡ true → g p ≡ tr
 each-map f g h [] e = refl
 each-map f g h (u ∷ us) e = let s = and-split (f u) (each f us) e in and-join _ _ (h u (s .0)) (each-map f g h us (s .1))
 
-weaken : (a b c : Bool) → (b ≡ true → c ≡ true) → (a || b) ≡ true → (a || c) ≡ true
-weaken true b c h e = refl
-weaken false b c h e = h e
-
-pub mask-front : (us vs : List Part) → maskCovers (us ++ vs) ≡ true → maskCovers us ≡ true
+mask-front : (us vs : List Part) → maskCovers (us ++ vs) ≡ true → maskCovers us ≡ true
 mask-front us vs e =
     let covers : List Part → Part → Part → Bool = λ ws p q. leb (number (getD (q .fields) 0 [])) (length (getD (p .fields) 0 [])) in
     let a = rw (kind-join tokenParameters us vs) at e in
     each-map _ _
-    (λ p h. weaken (eqb (length (getD (p .fields) 0 [])) 0) _ _
+    (λ p h. or-map (eqb (length (getD (p .fields) 0 [])) 0) _ _
     (λ k. each-front (covers us p) (ofKind exportParameters us) (ofKind exportParameters vs) (rw (kind-join exportParameters us vs) at k)) h)
     (ofKind tokenParameters us) (each-front _ (ofKind tokenParameters us) (ofKind tokenParameters vs) a)
 

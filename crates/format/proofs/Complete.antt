@@ -18,7 +18,7 @@ use Rattle.format.specs.Reading.{Outcome, refused, found, fault, need, a
 use Rattle.format.specs.Reading.{tested, subsectionChecks, subsection, subsections, holdsSubs, kindBefore, ruleBefore, sectionChecks}
 use Rattle.format.specs.Reading.{closed, sectionRest, section, sections, partsOf}
 use Rattle.format.proofs.Numbers.{bigEndian-length, same-sym}
-use Rattle.format.proofs.Finding.{and-join, every-kind, sameKind-eq, sectionKind-told, subsectionKind-told}
+use Rattle.format.proofs.Finding.{and-join, or-left, or-right, or-else, every-kind, sameKind-eq, sectionKind-told, subsectionKind-told}
 use Rattle.format.proofs.Fitting.{Fits, part-fits}
 use Rattle.format.proofs.Unique.{size-any, size-pos}
 use Rattle.format.proofs.Tests.{need-passed, then-found, Hold, tests-lead, hold-join}
@@ -118,7 +118,7 @@ part-stated p t r z h f e =
     (part-read p t r z (part-fits (p .kind) t (p .fields) h f) e .0)
 
 -- Subsections that are written and keep their rules are found, behind the earlier ones.
-pub subs-found : (d : ℕ) (x : Bool) (o : Kind) (before : List Part) (at : ℕ) (us : List Part) (z : List ℕ)
+subs-found : (d : ℕ) (x : Bool) (o : Kind) (before : List Part) (at : ℕ) (us : List Part) (z : List ℕ)
     → length (writeParts us) < d → length (writeParts us) < 256 ^ 2 → All (GoodSub x o) us → Pairwise otherKind (before ++ us)
     → subsections d x o before at (length (writeParts us)) (writeParts us ++ z) ≡ found (before ++ us)
 subs-found zero x o before at us z h small g w = absurd (omega arith)
@@ -147,18 +147,6 @@ subs-found (suc d) x o before at (u ∷ us) z h small g w =
     ∙ ap {B = Outcome (List Part)} found (append-assoc before (u ∷ []) us)
 
 -- ---- sections
-
-or-left : (a b : Bool) → a ≡ true → (a || b) ≡ true
-or-left true b e = refl
-or-left false b e = absurd (let z : _≡_ {A = ℕ} 0 1 = cc in omega arith)
-
-or-right : (a b : Bool) → b ≡ true → (a || b) ≡ true
-or-right true b e = refl
-or-right false b e = e
-
-pub or-else : (a b : Bool) → (a || b) ≡ true → a ≡ false → b ≡ true
-or-else false b e f = e
-or-else true b e f = absurd (let z : _≡_ {A = ℕ} 0 1 = cc in omega arith)
 
 -- Only sections 12 and 14 have subsections.
 abbrev owning : ℕ → Bool
@@ -234,7 +222,7 @@ made-whole x k [] m n t f g a b = or-right (holdsSubs k) _ (eq-eqb m t (omega ar
 made-whole x k (u ∷ us) m n t f g a b = or-left _ _ (owner-holds (u .kind) k (g .0 .sub) (g .0 .owner) f)
 
 -- A section that is written, keeps its rules and may stand behind the earlier ones is found.
-pub section-found : (full x : Bool) (before : List Section) (at : ℕ) (s : Section) (r z : List ℕ) → GoodSection full x s
+section-found : (full x : Bool) (before : List Section) (at : ℕ) (s : Section) (r z : List ℕ) → GoodSection full x s
     → All (λ b. mayBothStand b s ≡ true) before → length (writeParts (s .head ∷ s .subs)) < 256 ^ 2
     → r ≡ writeParts (s .head ∷ s .subs) ++ z
     → (section full x before at r ≡ found s) × (stated r ≡ length (writeParts (s .head ∷ s .subs)))

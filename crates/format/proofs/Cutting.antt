@@ -11,7 +11,7 @@ use Rattle.format.proofs.Slots.{cut-at}
 use Rattle.format.proofs.Elements.{some-inj}
 
 -- The slots are those of the layout's fields, in order.
-pub slot-items : (ns : List ℕ) (l : List Item) (r : List ℕ) (o : ℕ) → map (λ s. s .item) (slots ns l r o) ≡ l
+slot-items : (ns : List ℕ) (l : List Item) (r : List ℕ) (o : ℕ) → map (λ s. s .item) (slots ns l r o) ≡ l
 slot-items ns [] r o = refl
 slot-items ns (code w v ∷ l) r o = ap (λ y. code w v ∷ y) (slot-items ns l r (o + w))
 slot-items ns (zeros n q ∷ l) r o = ap (λ y. zeros n q ∷ y) (slot-items ns l r (o + n))
@@ -35,7 +35,7 @@ slot-cons : (r : List ℕ) (o n : ℕ) (a z : List ℕ) → a ++ z ≡ drop (o +
 slot-cons r o n a z e = append-assoc (bytesAt r o n) a z ∙ ap (λ (y : List ℕ). bytesAt r o n ++ y) e ∙ cut-at r o n
 
 -- The slots lie one behind another, the first at offset o.
-abbrev pub Contiguous : ℕ → List Slot → Type 0
+abbrev Contiguous : ℕ → List Slot → Type 0
 Contiguous o [] = Unit {0}
 Contiguous o (s ∷ ss) = (s .offset ≡ o) × Contiguous (s .offset + s .width) ss
 

@@ -1,10 +1,12 @@
--- The element of a list at a number, counted from 0: it is there below the length and nowhere else.
-use mathlib.Core.Path.{_≡_, refl}
+-- The element of a list at a number, counted from 0: it is there below the length and nowhere else. Four elements stored
+-- one behind another.
+use mathlib.Core.Path.{_≡_, refl, ap, ap₂, _∙_}
 use mathlib.Core.List.{List, [], _∷_}
 use mathlib.Core.Option.{none, some}
-use Prim.Native.Nat.{ℕ, zero, suc, _≤_, _<_}
+use Prim.Native.Nat.{ℕ, zero, suc, _+_, _≤_, _<_}
 use native.Mathlib.Omega.{arith}
-use lib.ListN.{length, drop, getElem?}
+use lib.ListN.{length, drop, set, getElem?}
+use lib.Seq.{sets}
 
 -- Below the length there is an element, and behind the earlier ones the list goes on with it.
 pub there : {A : Type 0} (xs : List A) (k : ℕ) → k < length xs
@@ -28,3 +30,13 @@ there-lt (y ∷ xs) (suc k) x e = let i = there-lt xs k x e in omega arith
 -- What is there is told by its option.
 pub some-inj : {A : Type 0} {a b : A} → some a ≡ some b → a ≡ b
 some-inj e = cc
+
+-- Four numbers stored one behind another are stored as one list.
+pub four-sets : (l : List ℕ) (at w x y z : ℕ)
+    → set (set (set (set l at w) (at + 1) x) (at + 2) y) (at + 3) z ≡ sets l at (w ∷ x ∷ y ∷ z ∷ [])
+four-sets l at w x y z =
+    let k : at + 1 ≡ suc at = omega arith in
+    let m : at + 2 ≡ suc (suc at) = omega arith in
+    let o : at + 3 ≡ suc (suc (suc at)) = omega arith in
+    ap₂ (λ (i j : ℕ). set (set (set (set l at w) i x) j y) (at + 3) z) k m
+    ∙ ap (λ (j : ℕ). set (set (set (set l at w) (suc at) x) (suc (suc at)) y) j z) o

@@ -1,7 +1,7 @@
 -- The starred examples hold, and the smallest token is legal.
 use mathlib.Core.Path.{_≡_, refl}
 use mathlib.Core.List.{List, [], _∷_, _++_}
-use Prim.Native.Nat.{ℕ, suc, _+_}
+use Prim.Native.Nat.{ℕ, suc}
 use lib.Dec.{lit<, lit≤}
 use Rattle.format.specs.Parts.{information}
 use Rattle.format.specs.Legal.{Legal}

@@ -1,6 +1,6 @@
 -- Kinds are told by their numbers, and found by section id and tag.
 use mathlib.Core.Path.{_≡_, refl, sym, ap, ap₂, _∙_}
-use mathlib.Core.Bool.{Bool, true, false, not, _&&_}
+use mathlib.Core.Bool.{Bool, true, false, not, _&&_, _||_, or-true}
 use mathlib.Core.List.{List, [], _∷_}
 use mathlib.Core.Option.{Option, some}
 use Prim.Native.Nat.{ℕ, zero, suc, _+_, _*_, _<_}
@@ -23,6 +23,22 @@ and-split false b e = absurd (let z : _≡_ {A = ℕ} 0 1 = cc in omega arith)
 pub and-join : (a b : Bool) → a ≡ true → b ≡ true → (a && b) ≡ true
 and-join true b p q = q
 and-join false b p q = p
+
+-- Where one of two tests passes, one of the two does.
+pub or-left : (a b : Bool) → a ≡ true → (a || b) ≡ true
+or-left a b e = ap (λ (v : Bool). v || b) e
+
+pub or-right : (a b : Bool) → b ≡ true → (a || b) ≡ true
+or-right a b e = ap (λ (v : Bool). a || v) e ∙ or-true a
+
+-- Where one of two tests passes and it is not the first, it is the second.
+pub or-else : (a b : Bool) → (a || b) ≡ true → a ≡ false → b ≡ true
+or-else a b e f = sym (ap (λ (v : Bool). v || b) f) ∙ e
+
+-- Where the second test passes so does the one in its place.
+pub or-map : (a b c : Bool) → (b ≡ true → c ≡ true) → (a || b) ≡ true → (a || c) ≡ true
+or-map true b c h e = refl
+or-map false b c h e = h e
 
 -- ---- kinds are told by their numbers
 
@@ -48,7 +64,7 @@ kindOf-told = elim [
 ]
 
 -- Every kind of the list passes the test.
-abbrev pub eachKind : (Kind → Bool) → List Kind → Bool
+abbrev eachKind : (Kind → Bool) → List Kind → Bool
 eachKind f [] = true
 eachKind f (k ∷ ks) = f k && eachKind f ks
 
@@ -93,7 +109,7 @@ sectionId-pos k = ltb-true 0 (sectionId k) (every-kind (λ j. ltb 0 (sectionId j
 -- ---- kinds are found by section id and tag
 
 -- A kind that is found passes the test.
-pub firstKind-sound : (f : Kind → Bool) (ks : List Kind) (k : Kind) → firstKind f ks ≡ some k → f k ≡ true
+firstKind-sound : (f : Kind → Bool) (ks : List Kind) (k : Kind) → firstKind f ks ≡ some k → f k ≡ true
 firstKind-sound f [] k e = absurd (let z : _≡_ {A = ℕ} 0 1 = cc in omega arith)
 firstKind-sound f (j ∷ ks) k e = go (f j) refl e (λ q. firstKind-sound f ks k q)
   where
@@ -122,7 +138,7 @@ firstKind-among f g k h u (j ∷ ks) e = go (f j) (g j) refl e (λ q. firstKind-
     go false false p q i = i q
 
 -- The one kind that passes a test is found by it.
-pub firstKind-told :
+firstKind-told :
     (f : Kind → Bool) (k : Kind) → f k ≡ true → ((j : Kind) → f j ≡ true → j ≡ k) → firstKind f kinds ≡ some k
 firstKind-told f k h u = firstKind-among f (λ j. eqb (kindNumber j) (kindNumber k)) k h u kinds (kindOf-told k)
 

@@ -38,7 +38,7 @@ codesFit (fixed n ∷ l) = codesFit l
 codesFit (counted s ∷ l) = codesFit l
 
 -- The length t can be stated wherever the layout states the part's own length.
-abbrev pub OwnFits : ℕ → List Item → Type 0
+abbrev OwnFits : ℕ → List Item → Type 0
 OwnFits t [] = Unit {0}
 OwnFits t (code w v ∷ l) = OwnFits t l
 OwnFits t (zeros n q ∷ l) = OwnFits t l
@@ -48,7 +48,7 @@ OwnFits t (fixed n ∷ l) = OwnFits t l
 OwnFits t (counted s ∷ l) = OwnFits t l
 
 -- Fields that pass the test fit, where the layout's codes and the length t can be stated.
-pub fits-Fits :
+fits-Fits :
     (l : List Item) (t : ℕ) (ns : List ℕ) (fs : Fields) → codesFit l ≡ true → OwnFits t l → fits ns l fs ≡ true
     → Fits t ns l fs
 fits-Fits [] t ns [] c s e = tt
@@ -89,11 +89,11 @@ Fits-fits (counted s ∷ l) t ns (f ∷ fs) h =
     and-join (eqb (length f) (getD ns s 0)) _ (eq-eqb (length f) (getD ns s 0) (h .0)) (Fits-fits l t ns fs (h .1))
 
 -- The codes of every kind can be stated.
-pub layout-codes : (k : Kind) → codesFit (layout k) ≡ true
+layout-codes : (k : Kind) → codesFit (layout k) ≡ true
 layout-codes k = every-kind (λ j. codesFit (layout j)) refl k
 
 -- Every kind states its own length in two bytes.
-pub layout-own : (t : ℕ) → t < 256 ^ 2 → (k : Kind) → OwnFits t (layout k)
+layout-own : (t : ℕ) → t < 256 ^ 2 → (k : Kind) → OwnFits t (layout k)
 layout-own t h = elim [
   | publicKey ↦ (h, tt)
   | rule ↦ (h, tt)
@@ -112,7 +112,3 @@ layout-own t h = elim [
 -- The fields of a part of t bytes that pass the test fit its kind's layout.
 pub part-fits : (k : Kind) (t : ℕ) (fs : Fields) → t < 256 ^ 2 → fits [] (layout k) fs ≡ true → Fits t [] (layout k) fs
 part-fits k t fs h e = fits-Fits (layout k) t [] fs (layout-codes k) (layout-own t h k) e
-
--- The fields of a part that fit its kind's layout pass the test.
-pub part-fits-test : (k : Kind) (t : ℕ) (fs : Fields) → Fits t [] (layout k) fs → fits [] (layout k) fs ≡ true
-part-fits-test k t fs h = Fits-fits (layout k) t [] fs h

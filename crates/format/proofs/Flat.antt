@@ -2,17 +2,17 @@
 use mathlib.Core.Path.{_≡_, refl, sym, ap, ap₂, _∙_, subst}
 use mathlib.Core.Bool.{Bool, true, false, not, _||_}
 use mathlib.Core.List.{List, [], _∷_, _++_}
-use Prim.Native.Nat.{ℕ, _+_}
+use Prim.Native.Nat.{ℕ}
 use native.Mathlib.Omega.{arith}
 use lib.Dec.{eqb}
-use borrow.Author.Tests.{eq-eqb, eqb-true}
+use borrow.Author.Tests.{eq-eqb}
 use Rattle.format.specs.Bytes.{All}
 use Rattle.format.specs.Parts.{Kind, sectionId, sameKind, isSubsection, Part, joins}
 use Rattle.format.specs.Rules.{Section, frontSubs, sectionsOf, has, otherKind, maskCovers, hasRequired}
 use Rattle.format.specs.Legal.{Pairwise}
 use Rattle.format.specs.Reading.{kindBefore, partsOf}
-use Rattle.format.proofs.Finding.{and-split, and-join, sameKind-eq, sectionId-pos}
-use Rattle.format.proofs.Grouping.{is-true, is-false, all-join, all-map, Grouped}
+use Rattle.format.proofs.Finding.{and-join, or-right, or-map, sameKind-eq, sectionId-pos}
+use Rattle.format.proofs.Grouping.{is-true, is-false, all-join, all-map, joins-first, joins-behind, Grouped}
 use Rattle.format.proofs.Sound.{GoodPart, GoodSub, GoodSection, subs-of}
 
 -- ---- from sections to parts
@@ -49,30 +49,22 @@ flat-joins full x (s ∷ ss) g i =
     (join-subs x (s .head .kind) (s .subs) (partsOf ss) (g .0 .subs) (λ j e. flat-joins full x ss (g .1) j)
     (sectionId (s .head .kind)) refl)
 
-later : (b c : Bool) → c ≡ true → (b || c) ≡ true
-later true c q = refl
-later false c q = q
-
-has-later : (k : Kind) (us ps : List Part) → has k ps ≡ true → has k (us ++ ps) ≡ true
+-- A kind that stands among the parts behind stands among all.
+pub has-later : (k : Kind) (us ps : List Part) → has k ps ≡ true → has k (us ++ ps) ≡ true
 has-later k [] ps h = h
-has-later k (u ∷ us) ps h = later (sameKind k (u .kind)) (has k (us ++ ps)) (has-later k us ps h)
-
--- Where one of two lists of tests has a passed one, so does the longer.
-either-has : (b c d : Bool) → (c ≡ true → d ≡ true) → (b || c) ≡ true → (b || d) ≡ true
-either-has true c d f e = refl
-either-has false c d f e = f e
+has-later k (u ∷ us) ps h = or-right (sameKind k (u .kind)) (has k (us ++ ps)) (has-later k us ps h)
 
 -- A section of the kind is one of the parts.
 pub flat-has : (k : Kind) (ss : List Section) → kindBefore k ss ≡ true → has k (partsOf ss) ≡ true
 flat-has k [] e = e
 flat-has k (s ∷ ss) e =
-    either-has (sameKind k (s .head .kind)) (kindBefore k ss) (has k (s .subs ++ partsOf ss))
+    or-map (sameKind k (s .head .kind)) (kindBefore k ss) (has k (s .subs ++ partsOf ss))
     (λ q. has-later k (s .subs) (partsOf ss) (flat-has k ss q)) e
 
 -- ---- from parts to sections
 
 -- What is known of each part of a flat list.
-abbrev pub Each : Bool → List Part → Type 0
+abbrev Each : Bool → List Part → Type 0
 Each x ps = All (GoodPart x) ps
 
 -- A good subsection of the section with id i.
@@ -115,13 +107,8 @@ group-cons x i p ps false e g own r =
 group : (x : Bool) (i : ℕ) (ps : List Part) → Each x ps → joins i ps ≡ true → Group x i ps
 group x i [] g j = record { front = tt; flat = refl; heads = tt }
 group x i (p ∷ ps) g j =
-    let s = and-split (not (isSubsection (p .kind)) || eqb (sectionId (p .kind)) i) (joins (sectionId (p .kind)) ps) j in
-    group-cons x i p ps (isSubsection (p .kind)) refl (g .0) (λ e. eqb-true _ i (sub-own (isSubsection (p .kind)) _ e (s .0)))
-    (group x (sectionId (p .kind)) ps (g .1) (s .1))
-  where
-    sub-own : (b c : Bool) → b ≡ true → (not b || c) ≡ true → c ≡ true
-    sub-own true c e h = h
-    sub-own false c e h = absurd (let z : _≡_ {A = ℕ} 0 1 = cc in omega arith)
+    group-cons x i p ps (isSubsection (p .kind)) refl (g .0) (joins-first i p ps j)
+    (group x (sectionId (p .kind)) ps (g .1) (joins-behind i p ps j))
 
 -- No section has the id 0, so nothing stands before the first section.
 no-front : (x : Bool) (us : List Part) → All (SubOf x 0) us → us ≡ []
@@ -160,7 +147,7 @@ section-cons k p ps true true e q f ih h =
 section-cons k p ps false c e q f ih h =
     ap (kindBefore k) (is-false (isSubsection (p .kind)) (sectionsOf ps) _ e)
     ∙ ap (λ (v : Bool). v || kindBefore k (sectionsOf ps)) q
-    ∙ either-has c (has k ps) (kindBefore k (sectionsOf ps)) ih h
+    ∙ or-map c (has k ps) (kindBefore k (sectionsOf ps)) ih h
 
 pub has-section : (k : Kind) (ps : List Part) → isSubsection k ≡ false → has k ps ≡ true → kindBefore k (sectionsOf ps) ≡ true
 has-section k [] f e = e

@@ -1,17 +1,20 @@
 -- Parts as a flat list and as sections with their subsections: the bytes of one after the other, and that grouping undoes
 -- laying flat.
 use mathlib.Core.Path.{_≡_, refl, sym, ap, ap₂, _∙_}
-use mathlib.Core.Bool.{Bool, true, false}
+use mathlib.Core.Bool.{Bool, true, false, not, _||_}
 use mathlib.Core.List.{List, [], _∷_, _++_, append-assoc, append-nil}
 use Prim.Native.Nat.{ℕ, _+_, _^_, _≤_, _<_}
 use native.Mathlib.Nat.{add-zero}
 use native.Mathlib.Omega.{arith}
+use lib.Dec.{eqb}
 use lib.ListN.{length, length-append}
+use borrow.Author.Tests.{eqb-true}
 use Rattle.format.specs.Bytes.{All}
 use Rattle.format.specs.Layout.{write}
-use Rattle.format.specs.Parts.{isSubsection, layout, Part, size, subsectionsLength, span, writeParts, Stateable}
+use Rattle.format.specs.Parts.{Kind, sectionId, isSubsection, layout, Part, size, subsectionsLength, span, writeParts, joins, Stateable}
 use Rattle.format.specs.Rules.{Section, frontSubs, sectionsOf}
 use Rattle.format.specs.Reading.{partsOf}
+use Rattle.format.proofs.Finding.{and-split, or-else}
 use Rattle.format.proofs.Unique.{size-any}
 
 -- ---- a choice by a test, and lists whose elements all have a property
@@ -35,6 +38,29 @@ all-split P (x ∷ xs) ys h = let i = all-split P xs ys (h .1) in ((h .0, i .0),
 pub all-map : {A : Type 0} (P Q : A → Type 0) → ((x : A) → P x → Q x) → (xs : List A) → All P xs → All Q xs
 all-map P Q f [] h = tt
 all-map P Q f (x ∷ xs) h = (f x (h .0), all-map P Q f xs (h .1))
+
+-- ---- parts that may stand in this order
+
+-- The first, where it is a subsection, belongs to the section before.
+pub joins-first : (o : ℕ) (p : Part) (ps : List Part) → joins o (p ∷ ps) ≡ true → isSubsection (p .kind) ≡ true
+    → sectionId (p .kind) ≡ o
+joins-first o p ps j e =
+    eqb-true _ _ (or-else (not (isSubsection (p .kind))) _ (and-split _ (joins (sectionId (p .kind)) ps) j .0) (ap not e))
+
+-- Those behind it may stand there.
+pub joins-behind : (o : ℕ) (p : Part) (ps : List Part) → joins o (p ∷ ps) ≡ true → joins (sectionId (p .kind)) ps ≡ true
+joins-behind o p ps j =
+    and-split (not (isSubsection (p .kind)) || eqb (sectionId (p .kind)) o) (joins (sectionId (p .kind)) ps) j .1
+
+-- Where no subsection belongs to the section before, none follows it.
+pub none-follow : (o : ℕ) (ps : List Part) → ((k : Kind) → isSubsection k ≡ true → sectionId k ≡ o → ⊥) → joins o ps ≡ true
+    → subsectionsLength ps ≡ 0
+none-follow o [] n j = refl
+none-follow o (p ∷ ps) n j = go (isSubsection (p .kind)) refl
+  where
+    go : (b : Bool) → isSubsection (p .kind) ≡ b → subsectionsLength (p ∷ ps) ≡ 0
+    go false e = is-false (isSubsection (p .kind)) (size p + subsectionsLength ps) 0 e
+    go true e = absurd (n (p .kind) e (joins-first o p ps j e))
 
 -- ---- bytes of parts in a row
 
@@ -137,7 +163,7 @@ choice-le true x y n h k = h
 choice-le false x y n h k = k
 
 -- The subsections in front are no longer than all parts.
-pub subs-le : (ps : List Part) → subsectionsLength ps ≤ length (writeParts ps)
+subs-le : (ps : List Part) → subsectionsLength ps ≤ length (writeParts ps)
 subs-le [] = omega arith
 subs-le (p ∷ ps) =
     let i = subs-le ps in

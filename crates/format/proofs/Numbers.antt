@@ -4,7 +4,6 @@ use mathlib.Core.Bool.{Bool, true, false, _&&_}
 use mathlib.Core.List.{List, [], _∷_, _++_, append-assoc, append-nil, head-eq-of-cons-eq, tail-eq-of-cons-eq}
 use Prim.Native.Nat.{ℕ, zero, suc, _+_, _*_, _/_, _%_, _^_, _<_}
 use native.Mathlib.Nat.{div-add-mod', div-lt-iff-lt-mul, pow-suc, add-zero, zero-add}
-use native.Mathlib.Numerals.{add-one}
 use native.Mathlib.Omega.{arith}
 use lib.Arith.{digits-div, digits-mod}
 use lib.Dec.{lit<, eqb}
@@ -19,7 +18,7 @@ bigEndian-length zero n = refl
 bigEndian-length (suc w) n = simp (length-append, bigEndian-length w (n / 256)) (omega arith)
 
 -- One more byte behind makes the number 256 times as large, plus that byte.
-pub numberFrom-last : (bs : List ℕ) (a d : ℕ) → numberFrom a (bs ++ (d ∷ [])) ≡ numberFrom a bs * 256 + d
+numberFrom-last : (bs : List ℕ) (a d : ℕ) → numberFrom a (bs ++ (d ∷ [])) ≡ numberFrom a bs * 256 + d
 numberFrom-last [] a d = refl
 numberFrom-last (b ∷ bs) a d = numberFrom-last bs (a * 256 + b) d
 
@@ -100,27 +99,13 @@ append-inj (x ∷ a) (y ∷ b) l e =
     let t = append-inj a b (omega arith) (tail-eq-of-cons-eq e) in
     (ap₂ (λ h k. h ∷ k) (head-eq-of-cons-eq e) (t .0), t .1)
 
--- A list is bytes where the number at each of its places is below 256.
-pub bytes-of : (bs : List ℕ) → ((i : ℕ) → i < length bs → getD bs i 0 < 256) → Bytes bs
-bytes-of [] h = tt
-bytes-of (b ∷ bs) h = (h 0 (omega arith), bytes-of bs (λ i l. h (suc i) (omega arith)))
-
 -- One byte at a place states itself.
 pub number-one : (bs : List ℕ) (i : ℕ) → i < length bs → number (bytesAt bs i 1) ≡ getD bs i 0
 unfolding number bytesAt
 number-one bs i h = rw (drop-cons bs i 0 h) (omega arith)
 
--- Two bytes at a place state 256 times the first, plus the second.
-pub number-two :
-    (bs : List ℕ) (i : ℕ) → i + 1 < length bs → number (bytesAt bs i 2) ≡ getD bs i 0 * 256 + getD bs (i + 1) 0
-unfolding number bytesAt
-number-two bs i h =
-    let h₀ : i < length bs = omega arith in
-    let h₁ : suc i < length bs = omega arith in
-    rw (drop-cons bs i 0 h₀, drop-cons bs (suc i) 0 h₁, add-one) (omega arith)
-
 -- Two numbers, and two lists of bytes, are compared in either order.
-pub eqb-sym : (m n : ℕ) → eqb m n ≡ eqb n m
+eqb-sym : (m n : ℕ) → eqb m n ≡ eqb n m
 eqb-sym m n = turned (eqb m n) refl
   where
     turned : (v : Bool) → eqb m n ≡ v → v ≡ eqb n m

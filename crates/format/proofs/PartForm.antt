@@ -26,7 +26,7 @@ plain (fixed n ∷ l) = plain l
 plain (counted s ∷ l) = plain l
 
 -- The tests of what is always 0 say that the slots hold what they must.
-pub zeros-laid : (l : List Item) (t : ℕ) (ns r : List ℕ) (o j : ℕ) → plain l ≡ true → Hold (zeroChecks j r (slots ns l r o))
+zeros-laid : (l : List Item) (t : ℕ) (ns r : List ℕ) (o j : ℕ) → plain l ≡ true → Hold (zeroChecks j r (slots ns l r o))
     → Laid t r (slots ns l r o)
 zeros-laid [] t ns r o j p h = tt
 zeros-laid (code w v ∷ l) t ns r o j p h = absurd (let z : _≡_ {A = ℕ} 0 1 = cc in omega arith)
@@ -37,7 +37,7 @@ zeros-laid (fixed n ∷ l) t ns r o j p h = (tt, zeros-laid l t ns r (o + n) (su
 zeros-laid (counted s ∷ l) t ns r o j p h = (tt, zeros-laid l t ns r (o + getD ns s 0) (suc j) p h)
 
 -- Slots that hold what they must pass these tests.
-pub laid-zeros : (l : List Item) (t : ℕ) (ns r : List ℕ) (o j : ℕ) → Laid t r (slots ns l r o) → Hold (zeroChecks j r (slots ns l r o))
+laid-zeros : (l : List Item) (t : ℕ) (ns r : List ℕ) (o j : ℕ) → Laid t r (slots ns l r o) → Hold (zeroChecks j r (slots ns l r o))
 laid-zeros [] t ns r o j d = tt
 laid-zeros (code w v ∷ l) t ns r o j d = laid-zeros l t ns r (o + w) (suc j) (d .1)
 laid-zeros (zeros n q ∷ l) t ns r o j d = (d .0, laid-zeros l t ns r (o + n) (suc j) (d .1))
@@ -47,7 +47,7 @@ laid-zeros (fixed n ∷ l) t ns r o j d = laid-zeros l t ns r (o + n) (suc j) (d
 laid-zeros (counted s ∷ l) t ns r o j d = laid-zeros l t ns r (o + getD ns s 0) (suc j) (d .1)
 
 -- Every kind's layout is sound, and its body plain.
-pub layout-sound : (k : Kind) → sound 0 (layout k) ≡ true
+layout-sound : (k : Kind) → sound 0 (layout k) ≡ true
 layout-sound k = every-kind (λ j. sound 0 (layout j)) refl k
 
 pub body-plain : (k : Kind) → plain (body k) ≡ true

@@ -6,25 +6,24 @@ use Prim.Native.Nat.{ℕ, suc, _+_, _*_, _≤_}
 use native.Mathlib.Omega.{arith}
 use lib.Dec.{leb}
 use lib.ListN.{length, length-append, length-map}
-use lib.Seq.{length-take-le}
 use borrow.Author.Tests.{leb-true, not-true}
-use Rattle.format.specs.Bytes.{All, Bytes}
+use Rattle.format.specs.Bytes.{All}
 use Rattle.format.specs.Layout.{least, fits}
 use Rattle.format.specs.Parts.{Kind, publicKey, rule, transportVariant, exportParameters, tokenParameters}
 use Rattle.format.specs.Parts.{information, applicationData, isSubsection, layout, sameKind}
 use Rattle.format.specs.Parts.{Part, size, writeParts}
 use Rattle.format.specs.Rules.{Section, external, sectionsOf, sameRuleId, mayBothStand, otherKind}
 use Rattle.format.specs.Legal.{Pairwise, Legal}
-use Rattle.format.specs.Reading.{found, idOf, stated, reading, partsOf, rowCount}
+use Rattle.format.specs.Reading.{partsOf}
 use Rattle.format.specs.Table.{placed, rows}
-use Rattle.format.proofs.Finding.{every-kind, sameKind-eq}
+use Rattle.format.proofs.Finding.{or-else, every-kind, sameKind-eq}
 use Rattle.format.proofs.Unique.{written-length}
 use Rattle.format.proofs.Grouping.{Subs, all-map}
 use Rattle.format.proofs.Sound.{GoodPart, GoodSection, GoodSections, subs-of}
-use Rattle.format.proofs.Complete.{may-kinds, or-else}
+use Rattle.format.proofs.Complete.{may-kinds}
 use Rattle.format.proofs.Sizes.{leastOf, parts-least}
 use Rattle.format.proofs.Flat.{flat-good, choice-flat}
-use Rattle.format.proofs.Accepted.{reading-sound, choice-parts, lawful-good}
+use Rattle.format.proofs.Accepted.{choice-parts, lawful-good}
 
 -- ---- each section kind but the rule once, each tag once in its section
 
@@ -157,7 +156,7 @@ sections-pay full x (s ∷ ss) g =
     omega arith
 
 -- Good sections have few parts: 25 times their number is at most twice their bytes, and 56.
-pub good-pay : (full x : Bool) (ss : List Section) → GoodSections full x ss
+good-pay : (full x : Bool) (ss : List Section) → GoodSections full x ss
     → 25 * length (partsOf ss) ≤ 2 * length (writeParts (partsOf ss)) + 56
 good-pay full x ss g =
     let i = sections-pay full x ss (g .each) in
@@ -185,18 +184,6 @@ few-rows bs l =
     let w = written-length i ps in
     let s = ap length (l .form .same) in
     let m = l .atMost in
-    omega arith
-
--- What a reading finds, of a token or of a draft, has at most 300 rows.
-pub few-found : (full : Bool) (bs : List ℕ) (ss : List Section) → Bytes bs → reading full bs ≡ found ss
-    → rowCount ss ≤ 300
-few-found full bs ss b e =
-    let r = reading-sound full bs ss b e in
-    let p = good-pay full (external (idOf bs)) ss (r .good) in
-    let w = written-length (idOf bs) (partsOf ss) in
-    let f = ap length (r .form) in
-    let t = length-take-le (stated bs) bs (r .ends) in
-    let m = r .most in
     omega arith
 
 -- Each part has a row.

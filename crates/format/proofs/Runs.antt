@@ -16,19 +16,19 @@ use Rattle.format.proofs.Numbers.{append-inj}
 use Rattle.format.proofs.Unique.{one-choice}
 
 -- Bytes 2 and 3 of a written form state its length.
-pub written-sized :
+written-sized :
     (i : ℕ) (ps : List Part) → length (written i ps) < 256 ^ 2
     → (4 ≤ length (written i ps)) × (getD (written i ps) 2 0 * 256 + getD (written i ps) 3 0 ≡ length (written i ps))
 written-sized i ps h = (omega arith, omega arith)
 
 -- A legal token has four bytes at least, and its bytes 2 and 3 state its length.
-pub legal-sized : (bs : List ℕ) → Legal bs → (4 ≤ length bs) × (getD bs 2 0 * 256 + getD bs 3 0 ≡ length bs)
+legal-sized : (bs : List ℕ) → Legal bs → (4 ≤ length bs) × (getD bs 2 0 * 256 + getD bs 3 0 ≡ length bs)
 legal-sized bs l =
     subst (λ (x : List ℕ). (4 ≤ length x) × (getD x 2 0 * 256 + getD x 3 0 ≡ length x)) (l .form .same)
     (written-sized (l .id) (l .parts) (l .form .whole))
 
 -- Equal bytes that begin with legal tokens begin with the same one.
-pub first-told : (t u r s : List ℕ) → Legal t → Legal u → t ++ r ≡ u ++ s → (t ≡ u) × (r ≡ s)
+first-told : (t u r s : List ℕ) → Legal t → Legal u → t ++ r ≡ u ++ s → (t ≡ u) × (r ≡ s)
 first-told t u r s l m e =
     let a = legal-sized t l in
     let b = legal-sized u m in
@@ -64,7 +64,7 @@ pub one-cutting : (ts us : List (List ℕ)) → All Legal ts → All Legal us �
 one-cutting ts us ls ms = (cutting ts us ls ms, λ e. ap joined e)
 
 -- The count of rules does not turn on how the tokens are shown to be legal.
-pub same-count : (ts : List (List ℕ)) (ls ms : All Legal ts) → rulesOfAll ts ls ≡ rulesOfAll ts ms
+same-count : (ts : List (List ℕ)) (ls ms : All Legal ts) → rulesOfAll ts ls ≡ rulesOfAll ts ms
 same-count [] ls ms = refl
 same-count (t ∷ ts) ls ms =
     let l = ls .0 in

@@ -2,7 +2,7 @@
 use mathlib.Core.Path.{_≡_, refl, sym, ap, _∙_}
 use mathlib.Core.Bool.{Bool, true, false, not, _&&_, _||_}
 use mathlib.Core.List.{List, [], _∷_, _++_}
-use Prim.Native.Nat.{ℕ, _+_, _≤_, _<_}
+use Prim.Native.Nat.{ℕ, _+_, _≤_}
 use native.Mathlib.Omega.{arith}
 use lib.Dec.{eqb, lit<}
 use lib.ListN.{length, getD, length-append}
@@ -11,17 +11,18 @@ use Rattle.format.specs.Layout.{fits, write, least}
 use Rattle.format.specs.Parts.{Kind, rule, exportParameters, information, protection, sameKind, layout, Part, size, span, writeParts}
 use Rattle.format.specs.Rules.{Section, has, hasRequired}
 use Rattle.format.specs.Reading.{kindBefore, partsOf}
-use Rattle.format.proofs.Finding.{and-split, sameKind-eq}
+use Rattle.format.proofs.Finding.{and-split, or-right, or-map, sameKind-eq}
 use Rattle.format.proofs.Fitting.{part-fits}
 use Rattle.format.proofs.Unique.{size-any}
 use Rattle.format.proofs.Complete.{least-le}
+use Rattle.format.proofs.Flat.{has-later}
 
 -- Every part fits its layout.
-abbrev pub AllFit : List Part → Type 0
+abbrev AllFit : List Part → Type 0
 AllFit ps = All (λ (p : Part). fits [] (layout (p .kind)) (p .fields) ≡ true) ps
 
 -- A part that fits takes at least its plain number of bytes.
-pub size-least : (p : Part) → fits [] (layout (p .kind)) (p .fields) ≡ true → least (layout (p .kind)) ≤ size p
+size-least : (p : Part) → fits [] (layout (p .kind)) (p .fields) ≡ true → least (layout (p .kind)) ≤ size p
 size-least p f = least-le (layout (p .kind)) 0 [] (p .fields) (part-fits (p .kind) 0 (p .fields) (lit< tt) f)
 
 -- The plain numbers of parts, added up.
@@ -49,7 +50,7 @@ one-kind k (p ∷ ps) e = go (sameKind k (p .kind)) refl (λ h. one-kind k ps h)
     go false q ih = let i = ih (sym (ap (λ (v : Bool). v || has k ps) q) ∙ e) in omega arith
 
 -- Two kinds that are among the parts are counted with both numbers.
-pub two-kinds : (j k : Kind) (ps : List Part) → sameKind j k ≡ false → sameKind k j ≡ false → has j ps ≡ true → has k ps ≡ true
+two-kinds : (j k : Kind) (ps : List Part) → sameKind j k ≡ false → sameKind k j ≡ false → has j ps ≡ true → has k ps ≡ true
     → least (layout j) + least (layout k) ≤ leastOf ps
 two-kinds j k [] d d′ e f = absurd (let z : _≡_ {A = ℕ} 0 1 = cc in omega arith)
 two-kinds j k (p ∷ ps) d d′ e f = go (sameKind j (p .kind)) (sameKind k (p .kind)) refl refl (λ a b. two-kinds j k ps d d′ a b)
@@ -71,25 +72,9 @@ two-kinds j k (p ∷ ps) d d′ e f = go (sameKind j (p .kind)) (sameKind k (p .
 
 -- ---- the required parts
 
-or-first : (b c : Bool) → b ≡ true → (b || c) ≡ true
-or-first true c e = refl
-or-first false c e = absurd (let z : _≡_ {A = ℕ} 0 1 = cc in omega arith)
-
-or-second : (b c : Bool) → c ≡ true → (b || c) ≡ true
-or-second true c e = refl
-or-second false c e = e
-
 has-front : (k : Kind) (us ps : List Part) → has k us ≡ true → has k (us ++ ps) ≡ true
 has-front k [] ps e = absurd (let z : _≡_ {A = ℕ} 0 1 = cc in omega arith)
-has-front k (u ∷ us) ps e = go (sameKind k (u .kind)) refl (λ h. has-front k us ps h)
-  where
-    go : (b : Bool) → sameKind k (u .kind) ≡ b → (has k us ≡ true → has k (us ++ ps) ≡ true) → has k (u ∷ us ++ ps) ≡ true
-    go true q ih = or-first _ _ q
-    go false q ih = or-second (sameKind k (u .kind)) _ (ih (sym (ap (λ (v : Bool). v || has k us) q) ∙ e))
-
-has-back : (k : Kind) (us ps : List Part) → has k ps ≡ true → has k (us ++ ps) ≡ true
-has-back k [] ps e = e
-has-back k (u ∷ us) ps e = or-second (sameKind k (u .kind)) _ (has-back k us ps e)
+has-front k (u ∷ us) ps e = or-map (sameKind k (u .kind)) _ _ (λ h. has-front k us ps h) e
 
 -- What is required of a section, for section 14.
 required : (s : Section) → hasRequired s ≡ true → (not (sameKind information (s .head .kind)) || has protection (s .subs)) ≡ true
@@ -109,10 +94,10 @@ has-protection (s ∷ ss) r e = go (sameKind information (s .head .kind)) refl (
         → (kindBefore information ss ≡ true → has protection (partsOf ss) ≡ true) → has protection (partsOf (s ∷ ss)) ≡ true
     go true q ih =
         let p : has protection (s .subs) ≡ true = sym (ap (λ (v : Bool). not v || has protection (s .subs)) q) ∙ required s (r .0) in
-        or-second (sameKind protection (s .head .kind)) _ (has-front protection (s .subs) (partsOf ss) p)
+        or-right (sameKind protection (s .head .kind)) _ (has-front protection (s .subs) (partsOf ss) p)
     go false q ih =
-        or-second (sameKind protection (s .head .kind)) _
-        (has-back protection (s .subs) (partsOf ss) (ih (sym (ap (λ (v : Bool). v || kindBefore information ss) q) ∙ e)))
+        or-right (sameKind protection (s .head .kind)) _
+        (has-later protection (s .subs) (partsOf ss) (ih (sym (ap (λ (v : Bool). v || kindBefore information ss) q) ∙ e)))
 
 -- So a token has at least 72 bytes behind its header.
 pub required-long : (ps : List Part) → AllFit ps → has information ps ≡ true → has protection ps ≡ true → 72 ≤ length (writeParts ps)

@@ -54,7 +54,7 @@ zeros-of (b ∷ bs) e =
     let p = and-split (eqb b 0) (allZero bs) e in
     ap₂ (λ (x : ℕ) (y : List ℕ). x ∷ y) (eqb-true b 0 (p .0)) (zeros-of bs (p .1))
 
-pub all-zeros : (n : ℕ) → allZero (replicate n 0) ≡ true
+all-zeros : (n : ℕ) → allZero (replicate n 0) ≡ true
 unfolding allZero
 all-zeros zero = refl
 all-zeros (suc n) = all-zeros n
@@ -62,7 +62,7 @@ all-zeros (suc n) = all-zeros n
 -- ---- bytes that are laid out
 
 -- What a slot must hold, for a part of t bytes.
-abbrev pub Holds : ℕ → List ℕ → Slot → Type 0
+abbrev Holds : ℕ → List ℕ → Slot → Type 0
 Holds t bs s = elim (s .item) [
   | code w v ↦ number (slotBytes bs s) ≡ v
   | zeros n q ↦ allZero (slotBytes bs s) ≡ true
@@ -78,7 +78,7 @@ Laid t bs [] = Unit {0}
 Laid t bs (s ∷ ss) = Holds t bs s × Laid t bs ss
 
 -- The chosen field after k others is the first that goes by count number c.
-abbrev pub points : List Item → ℕ → ℕ → Bool
+abbrev points : List Item → ℕ → ℕ → Bool
 points [] k c = false
 points (code w v ∷ l) k c = points l k c
 points (zeros n q ∷ l) k c = points l k c
@@ -186,7 +186,7 @@ laid-written (counted j ∷ l) t ns bs o q b e d =
 -- ---- what is written reads back
 
 -- The slots of bytes from o on hold the fields fs.
-abbrev pub Reads : ℕ → List ℕ → List Item → Fields → List ℕ → ℕ → Type 0
+abbrev Reads : ℕ → List ℕ → List Item → Fields → List ℕ → ℕ → Type 0
 Reads t ns l fs bs o =
     Laid t bs (slots ns l bs o)
     × (fieldsIn bs (slots ns l bs o) ≡ fs)

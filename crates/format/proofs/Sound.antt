@@ -63,7 +63,7 @@ fields-bytes (counted c ∷ l) ns r o b =
     (bytes-take (getD ns c 0) (drop o r) (bytes-drop o r b), fields-bytes l ns r (o + getD ns c 0) b)
 
 -- A list with one more element at the end.
-pub pairwise-last : {A : Type 0} (f : A → A → Bool) (xs : List A) (x : A) → Pairwise f xs → All (λ y. f y x ≡ true) xs
+pairwise-last : {A : Type 0} (f : A → A → Bool) (xs : List A) (x : A) → Pairwise f xs → All (λ y. f y x ≡ true) xs
     → Pairwise f (xs ++ x ∷ [])
 pairwise-last f [] x h k = (tt, tt)
 pairwise-last f (y ∷ xs) x h k =

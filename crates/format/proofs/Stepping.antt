@@ -5,7 +5,7 @@ use mathlib.Core.Option.{some}
 use Prim.Native.Nat.{ℕ, zero, suc, _+_, _≤_, _<_}
 use native.Mathlib.Omega.{arith}
 use lib.Dec.{eqb}
-use lib.ListN.{length, getElem?}
+use lib.ListN.{getElem?}
 use borrow.Author.Tests.{eq-eqb, ne-eqb}
 use Rattle.format.specs.Parts.{size}
 use Rattle.format.specs.Table.{Placed}
@@ -24,7 +24,7 @@ abbrev pub rowsOf : List Placed → List Row
 rowsOf xs = map (λ x. x .row) xs
 
 -- Each row begins at the first one's place or behind it, and its part ends within the end.
-pub between : (at e : ℕ) (xs : List Placed) (k : ℕ) (x : Placed) → Tiles at xs e → getElem? xs k ≡ some x
+between : (at e : ℕ) (xs : List Placed) (k : ℕ) (x : Placed) → Tiles at xs e → getElem? xs k ≡ some x
     → (at ≤ x .row .offset) × (x .row .offset + size (x .part) ≤ e)
 between at e [] k x t g = absurd (let z : _≡_ {A = ℕ} 0 1 = cc in omega arith)
 between at e (y ∷ xs) zero x t g =
@@ -65,19 +65,6 @@ next-tile at e (v ∷ u ∷ xs) zero x y t f g =
     let b = t .1 .0 in
     omega arith
 next-tile at e (v ∷ u ∷ xs) (suc k) x y t f g = next-tile (at + size (v .part)) e (u ∷ xs) k x y (t .1) f g
-
--- The last row's part ends at the end.
-pub last-tile : (at e : ℕ) (xs : List Placed) (k : ℕ) (x : Placed) → Tiles at xs e → getElem? xs k ≡ some x
-    → suc k ≡ length xs → x .row .offset + size (x .part) ≡ e
-last-tile at e [] k x t g h = absurd (omega arith)
-last-tile at e (y ∷ []) zero x t g h =
-    let p = ap (λ (w : Placed). w .row .offset) (some-inj g) in
-    let s = ap (λ (w : Placed). size (w .part)) (some-inj g) in
-    let a = t .0 in
-    let b = t .1 in
-    omega arith
-last-tile at e (y ∷ z ∷ xs) zero x t g h = absurd (omega arith)
-last-tile at e (y ∷ xs) (suc k) x t g h = last-tile (at + size (y .part)) e xs k x (t .1) g (omega arith)
 
 -- ---- a step over such rows
 

@@ -28,7 +28,7 @@ counts : (bs : List ℕ) (l : Legal bs) → rowCount (sectionsOf (l .parts)) ≡
 counts bs l = ap length (legal-parts bs l) ∙ sym (row-count (l .parts))
 
 -- The answer of a legal token.
-pub legal-answer : (bs : List ℕ) (l : Legal bs) → answer bs ≡ Accepted (length (rows (l .parts)))
+legal-answer : (bs : List ℕ) (l : Legal bs) → answer bs ≡ Accepted (length (rows (l .parts)))
 unfolding answer
 legal-answer bs l = told-found rowCount (legal-read bs l) ∙ ap Accepted (counts bs l)
 

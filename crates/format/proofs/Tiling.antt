@@ -25,16 +25,16 @@ use Rattle.format.specs.Claims.{Tiles, IsRow, subsOf}
 -- ---- the rows lie one behind another
 
 -- The rows of parts from place `at` on end where the parts' bytes end.
-pub placed-tile : (at n o : ℕ) (ps : List Part) (e : ℕ) → at + sizes ps ≡ e → Tiles at (placed at n o ps) e
+placed-tile : (at n o : ℕ) (ps : List Part) (e : ℕ) → at + sizes ps ≡ e → Tiles at (placed at n o ps) e
 placed-tile at n o [] e h = omega arith
 placed-tile at n o (p ∷ ps) e h = (refl, placed-tile (at + size p) (suc n) _ ps e (omega arith))
 
 -- Behind the header of a legal token stand its parts.
-pub behind-eight : (bs : List ℕ) (l : Legal bs) → drop 8 bs ≡ writeParts (l .parts)
+behind-eight : (bs : List ℕ) (l : Legal bs) → drop 8 bs ≡ writeParts (l .parts)
 behind-eight bs l = ap (drop 8) (sym (l .form .same))
 
 -- A legal token is as long as its header and its parts.
-pub token-length : (bs : List ℕ) (l : Legal bs) → length bs ≡ 8 + sizes (l .parts)
+token-length : (bs : List ℕ) (l : Legal bs) → length bs ≡ 8 + sizes (l .parts)
 token-length bs l =
     let s = ap length (l .form .same) in
     let w = written-length (l .id) (l .parts) in
@@ -80,7 +80,7 @@ row-of bs l k x e =
     row-from 8 0 0 0 bs (l .parts) k x f (behind-eight bs l) e
 
 -- The subsections in front have the length that a section adds to its own.
-pub front-sizes : (ps : List Part) → subsectionsLength ps ≡ sizes (frontSubs ps)
+front-sizes : (ps : List Part) → subsectionsLength ps ≡ sizes (frontSubs ps)
 front-sizes [] = refl
 front-sizes (p ∷ ps) = go (isSubsection (p .kind)) (front-sizes ps)
   where

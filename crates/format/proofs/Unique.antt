@@ -43,7 +43,7 @@ written-length i ps = omega arith
 -- ---- what is written tells the fields
 
 -- The layout states the part's own length.
-abbrev pub states : List Item → Bool
+abbrev states : List Item → Bool
 states [] = false
 states (code w v ∷ l) = states l
 states (zeros n q ∷ l) = states l
@@ -57,11 +57,11 @@ cut : (a b x y r s : List ℕ) → length a ≡ length b → (a ++ x) ++ r ≡ (
 cut a b x y r s h e = append-inj a b h (sym (append-assoc a x r) ∙ e ∙ append-assoc b y s)
 
 -- What a part's bytes tell, whatever follows them: the fields, what follows, and the length that they state.
-abbrev pub Told : List Item → ℕ → ℕ → Fields → Fields → List ℕ → List ℕ → Type 0
+abbrev Told : List Item → ℕ → ℕ → Fields → Fields → List ℕ → List ℕ → Type 0
 Told l t u fs gs r s = (fs ≡ gs) × (r ≡ s) × (states l ≡ true → t ≡ u)
 
 -- Fields that fit a layout are told by what is written.
-pub write-inj :
+write-inj :
     (l : List Item) (t u : ℕ) (ns : List ℕ) (fs gs : Fields) (r s : List ℕ) → Fits t ns l fs → Fits u ns l gs
     → write t l fs ++ r ≡ write u l gs ++ s → Told l t u fs gs r s
 write-inj [] t u ns [] [] r s h k e = (refl, e, λ x. absurd (let z : _≡_ {A = ℕ} 0 1 = cc in omega arith))
@@ -146,7 +146,7 @@ part-path {p} {q} a b = ap₂ {C = Part} (λ (k : Kind) (f : Fields). record { k
 
 -- Of two parts that are both sections, or both subsections of one section, what is written tells which part it is,
 -- what follows it, and the length that it states.
-pub part-told :
+part-told :
     (p q : Part) (o t u : ℕ) (r s : List ℕ) → isSubsection (p .kind) ≡ isSubsection (q .kind)
     → Owned (isSubsection (p .kind)) (sectionId (p .kind)) o → Owned (isSubsection (q .kind)) (sectionId (q .kind)) o
     → Fits t [] (layout (p .kind)) (p .fields) → Fits u [] (layout (q .kind)) (q .fields)
@@ -212,7 +212,7 @@ some-bytes p ps =
     simp length-append (omega arith)
 
 -- Parts that fit are told by what is written.
-pub parts-inj :
+parts-inj :
     (ps qs : List Part) (o : ℕ) → FitParts o ps → FitParts o qs → subsectionsLength ps ≡ subsectionsLength qs
     → writeParts ps ≡ writeParts qs → ps ≡ qs
 parts-inj [] [] o h k l e = refl
@@ -234,14 +234,14 @@ unowned true i n h o = absurd (omega arith)
 unowned false i n h o = refl
 
 -- A choice of parts begins with no subsection.
-pub subsections-none : (ps : List Part) → FitParts 0 ps → subsectionsLength ps ≡ 0
+subsections-none : (ps : List Part) → FitParts 0 ps → subsectionsLength ps ≡ 0
 subsections-none [] h = refl
 subsections-none (p ∷ ps) h =
     let k = p .kind in
     unowned (isSubsection k) (sectionId k) (size p + subsectionsLength ps) (sectionId-pos k) (h .0)
 
 -- The identifier fits the header, where the length of the written form can be stated.
-pub header-fits :
+header-fits :
     (i : ℕ) (ps : List Part) → length (written i ps) < 256 ^ 2
     → Fits (8 + length (writeParts ps)) [] header ((i ∷ []) ∷ [])
 header-fits i ps h = (refl, (omega arith, tt))

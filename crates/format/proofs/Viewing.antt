@@ -9,7 +9,7 @@ use native.Mathlib.Omega.{arith}
 use lib.ListN.{length, take, drop, getElem?, length-append, drop-of-length-le}
 use lib.Seq.{drop-drop, drop-at}
 use Rattle.format.specs.Bytes.{Bytes, number, bytesAt}
-use Rattle.format.specs.Layout.{write, Slot, slots, slotBytes}
+use Rattle.format.specs.Layout.{write, Slot, slotBytes}
 use Rattle.format.specs.Layout.{fieldsIn, endOf}
 use Rattle.format.specs.Parts.{layout, Part, writeParts}
 use Rattle.format.specs.Rules.{Section, external, sectionsOf}
@@ -105,7 +105,7 @@ slots-count : (bs : List ℕ) (x : Placed) → length (slotsOf bs x) ≡ length 
 slots-count bs x = slot-count [] (layout (x .part .kind)) (drop (x .row .offset) bs) 0
 
 -- The view of a field is the bytes of its slot, and its partner question is answered 0.
-pub view-slot : (bs : List ℕ) (l : Legal bs) (k j : ℕ) (x : Placed) (s : Slot) → IsRow bs l k x
+view-slot : (bs : List ℕ) (l : Legal bs) (k j : ℕ) (x : Placed) (s : Slot) → IsRow bs l k x
     → getElem? (slotsOf bs x) j ≡ some s
     → (view bs k j ≡ slotBytes (drop (x .row .offset) bs) s) × (viewAnswer bs k j ≡ Accepted 0)
 unfolding view viewAnswer bytesAt
@@ -153,27 +153,32 @@ pub view-refused : (bs : List ℕ) (f : Fault) (k j : ℕ) → reading true bs �
     → (view bs k j ≡ []) × (viewAnswer bs k j ≡ Refused (f .number) (f .part))
 view-refused bs f k j e = missing bs k j (f .number) (f .part) (no-token bs f k j e)
 
+-- What lies somewhere lies at one place, with one width.
+at-inj : {a b o n : ℕ} → At a b ≡ At o n → (a ≡ o) × (b ≡ n)
+at-inj e = (cc, cc)
+
+-- What lies somewhere is not missing.
+not-at : {o n a b : ℕ} → At o n ≡ Missing a b → ⊥
+not-at e = let z : _≡_ {A = ℕ} 0 1 = cc in omega arith
+
 -- Where a field of a legal token lies, it lies behind the header and ends within the token.
 pub field-inside : (bs : List ℕ) (l : Legal bs) (k j o n : ℕ) → fieldAt bs k j ≡ At o n → (8 ≤ o) × (o + n ≤ length bs)
 field-inside bs l k j o n w = of (getElem? (placed 8 0 0 (l .parts)) k) refl
   where
     slot : (x : Placed) → IsRow bs l k x → (m : Option Slot) → getElem? (slotsOf bs x) j ≡ m
         → ofSlot (x .row .offset) m ≡ At o n → (8 ≤ o) × (o + n ≤ length bs)
-    slot x e none g h = absurd (let z : _≡_ {A = ℕ} 0 1 = cc in omega arith)
+    slot x e none g h = absurd (not-at (sym h))
     slot x e (some s) g h =
         let run = slots-contiguous [] (layout (x .part .kind)) (drop (x .row .offset) bs) 0 in
         let i = slots-inside 0 (slotsOf bs x) j s run g in
         let f = slots-end bs l k x e in
         let z = size-any (layout (x .part .kind)) (x .row .length) 0 (x .part .fields) in
         let r = row-inside bs l k x e in
-        let a : x .row .offset + s .offset ≡ o = cc in
-        let b : s .width ≡ n = cc in
-        (omega arith, omega arith)
+        let a = at-inj h in
+        (omega (arith, a), omega (arith, a))
 
     of : (m : Option Placed) → getElem? (placed 8 0 0 (l .parts)) k ≡ m → (8 ≤ o) × (o + n ≤ length bs)
-    of none e =
-        let h : At o n ≡ Missing 22 0 = sym w ∙ found-field bs l k j ∙ ap (ofRow bs j) e in
-        absurd (let z : _≡_ {A = ℕ} 0 1 = cc in omega arith)
+    of none e = absurd (not-at (sym w ∙ found-field bs l k j ∙ ap (ofRow bs j) e))
     of (some x) e = slot x e (getElem? (slotsOf bs x) j) refl (sym (field-at bs l k j x e) ∙ w)
 
 -- ---- the views of a row, laid end to end

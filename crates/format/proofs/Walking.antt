@@ -1,14 +1,12 @@
 -- The walk over a legal token: from byte 8 its records are the rows in order, then comes the end; 22 at any other
 -- place.
 use mathlib.Core.Path.{_≡_, refl, sym, ap, _∙_, subst}
-use mathlib.Core.Bool.{Bool, true, false}
+use mathlib.Core.Bool.{true}
 use mathlib.Core.List.{List, [], _∷_}
 use mathlib.Core.Option.{some}
-use Prim.Native.Nat.{ℕ, zero, suc, _+_, _≤_, _<_}
+use Prim.Native.Nat.{ℕ, zero, suc, _+_, _≤_}
 use native.Mathlib.Omega.{arith}
-use lib.Dec.{ltb}
 use lib.ListN.{length, getElem?}
-use borrow.Author.Tests.{ltb-true, ltb-false}
 use Rattle.format.specs.Parts.{Part, size}
 use Rattle.format.specs.Legal.{Legal}
 use Rattle.format.specs.Reading.{Fault, refused, reading}
@@ -17,11 +15,10 @@ use Rattle.format.specs.Views.{stepIn, stepAt, placeBehind}
 use Rattle.format.specs.declared.Row.{Row}
 use Rattle.format.specs.declared.Step.{Step}
 use Rattle.format.specs.declared.Step.the-variants.{Record, End, Stopped}
-use Rattle.format.proofs.Unique.{size-pos}
 use Rattle.format.proofs.Accepted.{legal-read}
 use Rattle.format.proofs.Rows.{placed-count}
 use Rattle.format.proofs.Tiling.{rows-tile, row-of}
-use Rattle.format.proofs.Stepping.{between, rising, next-tile, last-tile, rowsOf, step-row, step-end}
+use Rattle.format.proofs.Stepping.{next-tile, rowsOf, step-row, step-end}
 use Rattle.format.proofs.Stepping.{step-elsewhere}
 use Rattle.format.proofs.Viewing.{legal-parts}
 use Rattle.format.specs.Claims.{Tiles, IsRow, walk, walkPlace}
@@ -51,14 +48,6 @@ step-next bs l k x y e f =
     let n = next-tile 8 (length bs) (placed 8 0 0 (l .parts)) k x y (rows-tile bs l) e f in
     step-at-row bs l k x e ∙ ap (λ (m : ℕ). Record (x .row) m) (sym n)
 
--- The last row's part ends at the token's length, so the step there gives it and the length.
-pub step-last : (bs : List ℕ) (l : Legal bs) (k : ℕ) (x : Placed) → IsRow bs l k x → suc k ≡ length (l .parts)
-    → stepAt bs (x .row .offset) ≡ Record (x .row) (length bs)
-step-last bs l k x e h =
-    let n : suc k ≡ length (placed 8 0 0 (l .parts)) = h ∙ sym (placed-count 8 0 0 (l .parts)) in
-    step-at-row bs l k x e
-    ∙ ap (λ (m : ℕ). Record (x .row) m) (last-tile 8 (length bs) (placed 8 0 0 (l .parts)) k x (rows-tile bs l) e n)
-
 -- At the token's length the step gives the end.
 pub step-at-end : (bs : List ℕ) (l : Legal bs) → stepAt bs (length bs) ≡ End
 step-at-end bs l = step-legal bs l (length bs) ∙ step-end 8 (length bs) (placed 8 0 0 (l .parts)) (rows-tile bs l)
@@ -74,31 +63,6 @@ pub step-refused : (bs : List ℕ) (f : Fault) (at : ℕ) → reading true bs �
     → stepAt bs at ≡ Stopped (f .number) (f .part)
 unfolding stepAt
 step-refused bs f at e = rw (e, stepAt)
-
--- ---- the places of the rows
-
--- The rows' places rise strictly, each at least by the part's own bytes, and lie below the token's length.
-pub places-rise : (bs : List ℕ) (l : Legal bs) (j k : ℕ) (x y : Placed) → j < k → IsRow bs l j x → IsRow bs l k y
-    → (x .row .offset < y .row .offset)
-    × (x .row .offset + size (x .part) ≤ y .row .offset)
-    × (y .row .offset < length bs)
-places-rise bs l j k x y h e f =
-    let t = rows-tile bs l in
-    let r = rising 8 (length bs) (placed 8 0 0 (l .parts)) j k x y t h e f in
-    let b = between 8 (length bs) (placed 8 0 0 (l .parts)) k y t f in
-    let p = size-pos (x .part) in
-    let q = size-pos (y .part) in
-    (omega arith, r, omega arith)
-
--- No two rows begin at one place.
-pub one-row : (bs : List ℕ) (l : Legal bs) (j k : ℕ) (x y : Placed) → IsRow bs l j x → IsRow bs l k y
-    → x .row .offset ≡ y .row .offset → j ≡ k
-one-row bs l j k x y e f q = go (ltb j k) (ltb k j) refl refl
-  where
-    go : (b c : Bool) → ltb j k ≡ b → ltb k j ≡ c → j ≡ k
-    go true c v w = let r = places-rise bs l j k x y (ltb-true j k v) e f in absurd (omega arith)
-    go false true v w = let r = places-rise bs l k j y x (ltb-true k j w) f e in absurd (omega arith)
-    go false false v w = let a = ltb-false j k v in let c = ltb-false k j w in omega arith
 
 -- ---- the walk
 

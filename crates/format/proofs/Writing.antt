@@ -108,7 +108,7 @@ form-of : (i : ℕ) (ps : List Part) (bs : List ℕ) → Choice i ps → length 
 form-of i ps bs c h e = let l = written-length i ps in record { choice = c; parts = stateable ps (omega arith); whole = h; same = e }
 
 -- A choice that a draft's reading accepts is lawful.
-pub accepted-lawful : (i : ℕ) (ps : List Part) (bs : List ℕ) (ss : List Section) → Choice i ps → length (written i ps) < 256 ^ 2
+accepted-lawful : (i : ℕ) (ps : List Part) (bs : List ℕ) (ss : List Section) → Choice i ps → length (written i ps) < 256 ^ 2
     → bs ≡ written i ps → reading false bs ≡ found ss → Lawful i ps
 accepted-lawful i ps bs ss c h e r =
     let b : Bytes bs = rw e (written-bytes i ps (c .identifier) (c .bytes)) in
@@ -126,7 +126,7 @@ accepted-lawful i ps bs ss c h e r =
     subst (λ (qs : List Part). Lawful i qs) (one .1) (subst (λ (j : ℕ). Lawful j (partsOf ss)) (one .0) (good-lawful false (idOf bs) ss (s .known) (s .good)))
 
 -- An accepted addition makes the draft of the parts with the added one behind them.
-pub added : (i : ℕ) (ps : List Part) (d : List ℕ) (p : Part) (bs : List ℕ) → Draft i ps d → All Bytes (p .fields)
+added : (i : ℕ) (ps : List Part) (d : List ℕ) (p : Part) (bs : List ℕ) → Draft i ps d → All Bytes (p .fields)
     → addition (p .kind) (p .fields) d ≡ found bs → Draft i (ps ++ p ∷ []) (draftAfter (found bs) d)
 unfolding addition
 added i ps d p bs w b e =
@@ -152,7 +152,7 @@ added i ps d p bs w b e =
     (ap (λ (y : List ℕ). y ++ drop (length bs) d) (sym q))
 
 -- A part is added where the longer choice is lawful and has room.
-pub adding : (i : ℕ) (ps : List Part) (d : List ℕ) (p : Part) → Draft i ps d → Choice i (ps ++ p ∷ []) → Lawful i (ps ++ p ∷ [])
+adding : (i : ℕ) (ps : List Part) (d : List ℕ) (p : Part) → Draft i ps d → Choice i (ps ++ p ∷ []) → Lawful i (ps ++ p ∷ [])
     → length (written i (ps ++ p ∷ [])) ≤ 3500 → length (written i (ps ++ p ∷ [])) ≤ length d
     → addition (p .kind) (p .fields) d ≡ found (written i (ps ++ p ∷ []))
 unfolding addition
@@ -192,7 +192,7 @@ after-length bs d h =
     omega arith
 
 -- The parts of a lawful choice are all added, in their order, where there is room.
-pub run-adds : (qs : List Part) (i : ℕ) (ps : List Part) (d : List ℕ) → Draft i ps d → Choice i (ps ++ qs) → Lawful i (ps ++ qs)
+run-adds : (qs : List Part) (i : ℕ) (ps : List Part) (d : List ℕ) → Draft i ps d → Choice i (ps ++ qs) → Lawful i (ps ++ qs)
     → length (written i (ps ++ qs)) ≤ 3500 → length (written i (ps ++ qs)) ≤ length d
     → (e : List ℕ) × (additions qs d ≡ found e) × (length e ≡ length d)
 unfolding additions

@@ -2,7 +2,7 @@
 -- the field that is tested and the refusal; the rules between parts follow.
 use mathlib.Core.Bool.{Bool, true, false, not, _&&_, _||_}
 use mathlib.Core.List.{List, [], _∷_}
-use Prim.Native.Nat.{ℕ, zero}
+use Prim.Native.Nat.{ℕ}
 use lib.Dec.{eqb, leb}
 use lib.ListN.{length, getD}
 use Rattle.format.specs.Bytes.{number, allZero, sameBytes}

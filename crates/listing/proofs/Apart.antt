@@ -8,7 +8,7 @@ use Rattle.format.specs.Lines.{idText, firstLine, rowLine}
 use Rattle.format.specs.declared.Answer.{Answer}
 use Rattle.format.specs.declared.Answer.the-variants.{Accepted, Refused}
 use Rattle.format.specs.declared.Row.{Row}
-use Rattle.listing.specs.Numerals.{numeral}
+use Rattle.texts.specs.Numerals.{numeral}
 use Rattle.listing.proofs.Columns.{Solid, numeral-solid, tag-solid, id-solid, columns-same}
 use Rattle.listing.proofs.Lines.{acceptedColumns, refusedColumns, rowColumns, accepted-is, refused-is, row-is}
 use Rattle.listing.proofs.Readback.{numeral-same, tag-same}

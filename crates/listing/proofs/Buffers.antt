@@ -1,27 +1,20 @@
 -- A line that was stored, cut out, and placed in a lent buffer. Assumes nothing.
 use mathlib.Core.Path.{_≡_, sym, ap, _∙_}
 use mathlib.Core.Logic.{⊎-elim}
-use mathlib.Core.Bool.{Bool, true, false}
+use mathlib.Core.Bool.{true, false}
 use mathlib.Core.List.{List, _++_}
-use Prim.Native.Nat.{ℕ, _+_, _<_, _≤_}
+use Prim.Native.Nat.{ℕ, _<_, _≤_}
 use native.Mathlib.Nat.{zero-add}
 use native.Mathlib.Omega.{arith}
 use lib.Dec.{leb}
-use lib.ListN.{length, take, drop}
-use lib.Seq.{sets, sets-eq, take-at}
+use lib.ListN.{length, drop}
 use borrow.Author.Tests.{le-leb, lt-leb}
 use Rattle.listing.specs.declared.LineAnswer.the-variants.{Length, TooSmall}
+use Rattle.format.proofs.Grouping.{is-true, is-false}
 use Rattle.storing.specs.Storing.{Stored}
 use Rattle.storing.proofs.Stores.{sets-front}
 use Rattle.listing.specs.Buffers.{lineAnswer, lineIn}
-use Rattle.listing.proofs.Digits.{below-or-not}
-
--- a test that holds picks the first of two, one that does not the second
-pub first-of : {A : Type 0} (t : Bool) (x y : A) → t ≡ true → elim t [ true ↦ x | false ↦ y ] ≡ x
-first-of t x y e = rw e
-
-pub second-of : {A : Type 0} (t : Bool) (x y : A) → t ≡ false → elim t [ true ↦ x | false ↦ y ] ≡ y
-second-of t x y e = rw e
+use Rattle.texts.proofs.Digits.{below-or-not}
 
 -- the buffer has no room for the line, or it has
 pub no-room : (line old : List ℕ) → length old < length line
@@ -29,14 +22,14 @@ pub no-room : (line old : List ℕ) → length old < length line
 unfolding lineAnswer lineIn
 no-room line old h =
     let e : leb (length line) (length old) ≡ false = lt-leb (length line) (length old) h in
-    (second-of _ _ _ e, second-of _ _ _ e)
+    (is-false _ _ _ e, is-false _ _ _ e)
 
 pub room : (line old : List ℕ) → length line ≤ length old
     → (lineAnswer line old ≡ Length (length line)) × (lineIn line old ≡ line ++ drop (length line) old)
 unfolding lineAnswer lineIn
 room line old h =
     let e : leb (length line) (length old) ≡ true = le-leb (length line) (length old) h in
-    (first-of _ _ _ e, first-of _ _ _ e)
+    (is-true _ _ _ e, is-true _ _ _ e)
 
 -- a line that was stored where there is room for it
 pub line-placed : (line old new : List ℕ) (n : ℕ) → length line ≤ length old → Stored old 0 line new n

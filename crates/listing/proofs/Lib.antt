@@ -1,10 +1,7 @@
 pub mod Apart
 pub mod Buffers
 pub mod Columns
-pub mod Digits
 pub mod Lengths
 pub mod Lines
 pub mod Main
-pub mod Numerals
 pub mod Readback
-pub mod Stores

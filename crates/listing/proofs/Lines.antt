@@ -2,15 +2,12 @@
 use mathlib.Core.Path.{_≡_, ap, _∙_}
 use mathlib.Core.List.{List, [], _∷_, _++_, append-assoc}
 use Prim.Native.Nat.{ℕ, _/_, _%_}
-use lib.Dec.{eqb}
-use borrow.Author.Tests.{ne-eqb}
 use Rattle.format.specs.Lines.{text, decimal, hexadecimal, idText, tagText, firstLine, rowLine}
 use Rattle.format.specs.declared.Answer.the-variants.{Accepted, Refused}
 use Rattle.format.specs.declared.Row.{Row}
-use Rattle.listing.specs.Numerals.{numeral}
+use Rattle.texts.specs.Numerals.{numeral}
 use Rattle.storing.specs.Storing.{Stored}
-use Rattle.listing.proofs.Buffers.{second-of}
-use Rattle.listing.proofs.Numerals.{decimal-is, hexadecimal-is}
+use Rattle.texts.proofs.Numerals.{decimal-is, hexadecimal-is}
 use Rattle.storing.proofs.Stores.{stored-as, stored-then}
 
 -- columns with a space between them and a newline behind the last
@@ -92,16 +89,6 @@ row-is n r =
     (decimal (r .length)) (decimal (r .owner))
     ∙ same-columns _ _ _ _ (tagText (r .kind % 65536)) _ _ _ _ _ _ (decimal-is n) (hexadecimal-is 2 (r .kind / 65536))
     (decimal-is (r .offset)) (decimal-is (r .length)) (decimal-is (r .owner))
-
--- a tag that is not 0, in four digits
-pub tag-is : (g : ℕ) → (g ≡ 0 → ⊥) → tagText g ≡ numeral 16 4 g
-tag-is g h = second-of (eqb g 0) (text "-") (hexadecimal 4 g) (ne-eqb g 0 h) ∙ hexadecimal-is 4 g
-
--- an id that is neither of the two
-pub id-unknown : (i : ℕ) → (i ≡ 0x1E → ⊥) → (i ≡ 0x1F → ⊥) → idText i ≡ text "unknown"
-id-unknown i h k =
-    second-of (eqb i 0x1E) (text "external") _ (ne-eqb i 0x1E h)
-    ∙ second-of (eqb i 0x1F) (text "internal") (text "unknown") (ne-eqb i 0x1F k)
 
 -- ---- stored one behind the other
 

@@ -9,11 +9,11 @@ use native.Mathlib.Omega.{arith}
 use lib.Dec.{ltb}
 use borrow.Author.Tests.{lt-ltb, le-ltb}
 use Rattle.format.specs.Lines.{digitText, tagText}
-use Rattle.listing.specs.Numerals.{digitCount, numeral}
-use Rattle.listing.proofs.Buffers.{first-of, second-of}
-use Rattle.listing.proofs.Digits.{below-or-not, lastDigits, quotient-below}
-use Rattle.listing.proofs.Lines.{tag-is}
-use Rattle.listing.proofs.Numerals.{count-holds, numeral-last}
+use Rattle.texts.specs.Numerals.{digitCount, numeral}
+use Rattle.format.proofs.Grouping.{is-true, is-false}
+use Rattle.texts.proofs.Digits.{below-or-not, lastDigits, quotient-below}
+use Rattle.texts.proofs.Words.{tag-is}
+use Rattle.texts.proofs.Numerals.{count-holds, numeral-last}
 
 -- the digit that a character stands for
 digitOf : ℕ → ℕ
@@ -30,12 +30,12 @@ unfolding digitOf
 digit-back d h =
     ⊎-elim
     (λ (l : d < 10).
-    ap digitOf (first-of (ltb d 10) (0x30 + d) (0x37 + d) (lt-ltb d 10 l))
-    ∙ first-of (ltb (0x30 + d) 0x40) (0x30 + d - 0x30) (0x30 + d - 0x37) (lt-ltb (0x30 + d) 0x40 (omega arith))
+    ap digitOf (is-true (ltb d 10) (0x30 + d) (0x37 + d) (lt-ltb d 10 l))
+    ∙ is-true (ltb (0x30 + d) 0x40) (0x30 + d - 0x30) (0x30 + d - 0x37) (lt-ltb (0x30 + d) 0x40 (omega arith))
     ∙ omega arith)
     (λ (l : 10 ≤ d).
-    ap digitOf (second-of (ltb d 10) (0x30 + d) (0x37 + d) (le-ltb d 10 l))
-    ∙ second-of (ltb (0x37 + d) 0x40) (0x37 + d - 0x30) (0x37 + d - 0x37) (le-ltb (0x37 + d) 0x40 (omega arith))
+    ap digitOf (is-false (ltb d 10) (0x30 + d) (0x37 + d) (le-ltb d 10 l))
+    ∙ is-false (ltb (0x37 + d) 0x40) (0x37 + d - 0x30) (0x37 + d - 0x37) (le-ltb (0x37 + d) 0x40 (omega arith))
     ∙ omega arith)
     (below-or-not d 10)
 

@@ -1,7 +1,5 @@
 // Public: the lines of the listing, each made by a call at the start of a lent buffer. A buffer that is too small for the
 // line is left as it is.
-mod texts; // texts.rt: words and numbers, stored one behind the other
-
 ghost use mathlib.Core.Path.{_≡_};
 ghost use Prim.Native.Nat.{_≤_};
 ghost use lib.ListN.{length};

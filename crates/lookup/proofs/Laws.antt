@@ -6,15 +6,13 @@ use Prim.Native.Nat.{ℕ, _+_, _-_, _<_, _≤_}
 use native.Mathlib.Omega.{arith}
 use lib.ListN.{length, getD, take, drop}
 use denote.Enum.Declared.{tagOf}
-use Rattle.format.specs.Bytes.{Bytes, bytesAt}
+use Rattle.format.specs.Bytes.{bytesAt}
 use Rattle.format.specs.Rules.{Section}
-use Rattle.format.specs.Reading.{Fault, Outcome, refused, found, place, stated, reading, rowCount, told, answer}
+use Rattle.format.specs.Reading.{Fault, Outcome, refused, found, reading, rowCount, told, answer}
 use Rattle.format.specs.Views.{fieldAt, bytesThere, stepAt}
-use Rattle.format.specs.declared.Answer.{Answer}
 use Rattle.format.specs.declared.Answer.the-variants.{Accepted, Refused}
 use Rattle.format.specs.declared.Where.{Where}
 use Rattle.format.specs.declared.Where.the-variants.{At, Missing}
-use Rattle.format.specs.declared.Step.{Step}
 use Rattle.format.specs.declared.Step.the-variants.{Stopped}
 use Rattle.format.proofs.Accepted.{reading-sound, whole-token, read-legal}
 use Rattle.format.proofs.Viewing.{no-token, field-inside}

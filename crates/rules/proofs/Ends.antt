@@ -1,6 +1,6 @@
 -- The end of a rule: what its subsections owe each other, and what is required. Assumes nothing.
 use mathlib.Core.Path.{_≡_, refl, sym, ap, ap₂, _∙_}
-use mathlib.Core.Bool.{Bool, true, false, not, _&&_, _||_}
+use mathlib.Core.Bool.{Bool, true, false, not, _&&_, _||_, and-true, or-true, or-false}
 use mathlib.Core.List.{List, [], _∷_}
 use Prim.Native.Nat.{ℕ, zero, suc, _+_, _-_, _<_, _≤_}
 use native.Mathlib.Omega.{arith}
@@ -15,16 +15,11 @@ use Rattle.format.proofs.Tests.{then-found}
 use Rattle.format.proofs.Turns.{subsectionsFrom, subs-none}
 use Rattle.sections.specs.Refusals.{sectionRows}
 use Rattle.sections.proofs.Heads.{section-rest}
-use Rattle.sections.proofs.InformationLaws.{or-true, or-false, mask-none}
+use Rattle.sections.proofs.InformationLaws.{mask-none}
 use Rattle.rules.specs.Loops.{ruleOf, standing, RuleRead}
 use Rattle.rules.proofs.Places.{here-one, standing-none}
 
 -- ---- 0005 against 0003
-
--- A test behind which nothing is asked.
-and-true : (b : Bool) → (b && true) ≡ b
-and-true true = refl
-and-true false = refl
 
 -- Where each part passes a test, all do.
 each-part : (f : Part → Bool) → ((p : Part) → f p ≡ true) → (us : List Part) → each f us ≡ true
@@ -56,7 +51,7 @@ mask-stands s us (suc i) e f = omega arith
 -- ---- what is required
 
 -- An export rule has a 0003.
-pub rule-required : (r : List ℕ) (us : List Part) → hasRequired (ruleOf r us) ≡ (not (eqb (number (bytesAt r 12 4)) 1) || has exportParameters us)
+rule-required : (r : List ℕ) (us : List Part) → hasRequired (ruleOf r us) ≡ (not (eqb (number (bytesAt r 12 4)) 1) || has exportParameters us)
 rule-required r us = and-true (not (eqb (number (bytesAt r 12 4)) 1) || has exportParameters us)
 
 module _ (r : List ℕ) (us : List Part) (full : Bool) where

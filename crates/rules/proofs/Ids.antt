@@ -1,16 +1,17 @@
 -- Rule IDs as numbers: a Rule ID came before exactly when its number did, and the set goes on with it. Assumes nothing.
 use mathlib.Core.Path.{_≡_, refl, sym, ap, ap₂, _∙_}
-use mathlib.Core.Bool.{Bool, true, false, _&&_, _||_}
+use mathlib.Core.Bool.{Bool, true, false, _&&_, _||_, or-false, or-assoc, or-comm}
 use mathlib.Core.List.{List, [], _∷_, _++_}
 use mathlib.Core.Logic.{⊎-elim}
 use Prim.Native.Nat.{ℕ, _+_, _≤_, _<_}
+use native.Mathlib.Nat.{pos-of-ne-zero}
 use native.Mathlib.Omega.{arith}
 use lib.Dec.{eqb}
 use lib.ListN.{getD, replicate}
 use borrow.Author.Tests.{eqb-true, eq-eqb, ne-eqb}
 use Rattle.format.specs.Bytes.{All, bigEndian, number, allZero, sameBytes}
 use Rattle.format.specs.Forms.{inRuleId, padded, ruleIdForm}
-use Rattle.format.specs.Parts.{rule, Part}
+use Rattle.format.specs.Parts.{Part}
 use Rattle.format.specs.Rules.{Section, sameRuleId}
 use Rattle.format.specs.Reading.{ruleBefore}
 use Rattle.format.proofs.Numbers.{bigEndian-number}
@@ -18,11 +19,8 @@ use Rattle.format.proofs.Finding.{and-split}
 use Rattle.format.proofs.Grouping.{all-join}
 use Rattle.rule_ids.specs.Keys.{Room, Put}
 use Rattle.rule_ids.proofs.Laws.{same-or, none-kept, none-below, none-among}
-use Rattle.sections.proofs.Laws.{zero-number}
-use Rattle.sections.proofs.Subs.{or-assoc}
-use Rattle.sections.proofs.InformationLaws.{or-false}
+use Rattle.fields.proofs.Lists.{zero-number}
 use Rattle.rules.specs.Ids.{firstField, isRule, keyBefore, EightBytes, Held}
-use Rattle.rules.proofs.Places.{some-place}
 
 -- ---- the number of a Rule ID
 
@@ -38,7 +36,7 @@ pub id-some : (bs : List ℕ) → ruleIdForm bs ≡ true → 0 < number bs
 unfolding ruleIdForm allZero
 id-some [] e = absurd (let z : _≡_ {A = ℕ} 0 1 = cc in omega arith)
 id-some (b ∷ bs) e =
-    some-place (number (b ∷ bs))
+    pos-of-ne-zero
     (λ z.
     let all = zero-number (b ∷ bs) ∙ eq-eqb (number (b ∷ bs)) 0 z in
     first-some b bs e (eqb-true b 0 (and-split (eqb b 0) (allZero bs) all .0)))
@@ -87,20 +85,13 @@ rule-key p (s ∷ ss) e h = ap₂ (λ (a b : Bool). a || b) (go (isRule s) (h .0
     go true k = same-number (getD (p .fields) 0 []) (firstField s) e (k refl)
     go false k = refl
 
--- Two tests of which one passes, in either order.
-or-swap : (a b : Bool) → (a || b) ≡ (b || a)
-or-swap true true = refl
-or-swap true false = refl
-or-swap false true = refl
-or-swap false false = refl
-
 -- One section more.
 key-last : (key : ℕ) (ss : List Section) (s : Section)
     → keyBefore key (ss ++ s ∷ []) ≡ (keyBefore key ss || (isRule s && eqb (number (firstField s)) key))
 key-last key [] s = or-false (isRule s && eqb (number (firstField s)) key)
 key-last key (t ∷ ss) s =
     ap (λ (b : Bool). (isRule t && eqb (number (firstField t)) key) || b) (key-last key ss s)
-    ∙ or-assoc (isRule t && eqb (number (firstField t)) key) (keyBefore key ss) (isRule s && eqb (number (firstField s)) key)
+    ∙ sym (or-assoc (isRule t && eqb (number (firstField t)) key) (keyBefore key ss) (isRule s && eqb (number (firstField s)) key))
 
 -- ---- the set
 
@@ -141,7 +132,7 @@ held-put {before} s h w grows e f =
       eight = all-join _ before (s ∷ []) (h .eight) ((λ y. f), tt);
       holds = λ k pos.
           w .holds k pos
-          ∙ or-swap (eqb key k) _
+          ∙ or-comm (eqb key k) _
           ∙ ap (λ (b : Bool). b || eqb key k) (h .holds k pos)
           ∙ sym (key-last k before s ∙ ap (λ (b : Bool). keyBefore k before || (b && eqb key k)) e);
     }

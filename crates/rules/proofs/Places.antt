@@ -11,29 +11,20 @@ use Rattle.format.specs.Parts.{Kind, sameKind, Part, size}
 use Rattle.format.specs.Rules.{has, ofKind}
 use Rattle.format.specs.Reading.{madeLength, partIn, placeOf}
 use Rattle.format.proofs.Finding.{sameKind-refl}
+use Rattle.format.proofs.Beginnings.{kind-join}
+use Rattle.sections.proofs.Subs.{kind-other}
 use Rattle.rules.specs.Loops.{standing, orHere, Within, Once}
 
 -- ---- one part more
 
--- The parts of a kind in a list with one part more, where that is of another kind.
-kind-other : (k : Kind) (us : List Part) (u : Part) → sameKind k (u .kind) ≡ false → ofKind k (us ++ u ∷ []) ≡ ofKind k us
-kind-other k [] u e = ap (λ (b : Bool). elim b as (λ y. List Part) [ true ↦ u ∷ [] | false ↦ [] ]) e
-kind-other k (v ∷ us) u e =
-    ap (λ (l : List Part). elim (sameKind k (v .kind)) as (λ y. List Part) [ true ↦ v ∷ l | false ↦ l ]) (kind-other k us u e)
-
 -- Where it is of this kind and the first, it is the only one.
 kind-same : (k : Kind) (us : List Part) (u : Part) → sameKind k (u .kind) ≡ true → ofKind k us ≡ [] → ofKind k (us ++ u ∷ []) ≡ u ∷ []
-kind-same k [] u e h = ap (λ (b : Bool). elim b as (λ y. List Part) [ true ↦ u ∷ [] | false ↦ [] ]) e
-kind-same k (v ∷ us) u e h = go (sameKind k (v .kind)) h (λ q. kind-same k us u e q)
-  where
-    go : (b : Bool) → _≡_ {A = List Part} (elim b [ true ↦ v ∷ ofKind k us | false ↦ ofKind k us ]) []
-        → (ofKind k us ≡ [] → ofKind k (us ++ u ∷ []) ≡ u ∷ [])
-        → _≡_ {A = List Part} (elim b [ true ↦ v ∷ ofKind k (us ++ u ∷ []) | false ↦ ofKind k (us ++ u ∷ []) ]) (u ∷ [])
-    go true q ih = absurd (let z : _≡_ {A = ℕ} 0 1 = cc in omega arith)
-    go false q ih = ih q
+kind-same k us u e h =
+    kind-join k us (u ∷ [])
+    ∙ ap₂ (λ (l : List Part) (b : Bool). l ++ elim b as (λ y. List Part) [ true ↦ u ∷ [] | false ↦ [] ]) h e
 
 -- A kind stands among parts where there are parts of it.
-pub has-of : (k : Kind) (us : List Part) → has k us ≡ elim (ofKind k us) as (λ y. Bool) [ [] ↦ false | v ∷ vs ↦ true ]
+has-of : (k : Kind) (us : List Part) → has k us ≡ elim (ofKind k us) as (λ y. Bool) [ [] ↦ false | v ∷ vs ↦ true ]
 has-of k [] = refl
 has-of k (u ∷ us) = go (sameKind k (u .kind)) (has-of k us)
   where
@@ -75,11 +66,6 @@ place-new k at (v ∷ us) u e = go (sameKind k (v .kind)) e (λ q. place-new k (
     go false q ih = ih q
 
 -- ---- a kind that stands at most once
-
--- A place that is not 0 is a number above 0.
-pub some-place : (n : ℕ) → (n ≡ 0 → ⊥) → 0 < n
-some-place zero h = absurd (h refl)
-some-place (suc n) h = omega arith
 
 -- A place is no further than the bytes reach.
 pub place-small : (s : List ℕ) (k : Kind) (i : ℕ) → Within s k i → i ≤ length s

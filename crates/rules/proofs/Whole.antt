@@ -21,7 +21,7 @@ use Rattle.sections.proofs.Heads.{section-stops, section-goes}
 use Rattle.sections.proofs.Laws.{at-drop}
 use Rattle.rules.specs.Loops.{ruleOf}
 use Rattle.rules.specs.Ids.{EightBytes, Held, RuleAnswered}
-use Rattle.rules.proofs.Laws.{length-behind}
+use Rattle.rule_subsections.proofs.Laws.{length-behind}
 use Rattle.rules.proofs.Turns.{rule-start}
 use Rattle.rules.proofs.Ends.{ends-missing, ends-there}
 use Rattle.rules.proofs.Ids.{id-some, rule-key, held-put}

@@ -9,13 +9,13 @@ ghost use Rattle.format.specs.Rules.{has, ofKind, maskCovers, hasRequired};
 ghost use Rattle.format.specs.Reading.{stated, told, sectionRest};
 ghost use Rattle.sections.specs.Refusals.{subRefusal, sectionRows};
 ghost use Rattle.rules.specs.Loops.{Marked, Within, standing, ruleOf};
-use crate::parameters::export_at;
-use crate::parameters::token_at;
-use crate::references::reference_at;
-use crate::references::variant_at;
 use fields::four;
 use fields::two;
 use format::Answer;
+use rule_subsections::parameters::export_at;
+use rule_subsections::parameters::token_at;
+use rule_subsections::references::reference_at;
+use rule_subsections::references::variant_at;
 
 // The subsection at q of a rule, where n bytes are left; places has the place of each tag that stands before, 0 for others.
 fn rule_sub(s: &[u8], q: usize, n: usize, places: &[usize; 6]) -> u32

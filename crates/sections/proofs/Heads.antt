@@ -1,21 +1,20 @@
 -- A section of a known kind, by the number of its first refusal: the outcome that the definition gives.
 use mathlib.Core.Path.{_≡_, refl, sym, ap, ap₂, _∙_, subst}
 use mathlib.Core.Bool.{Bool, true, false, not, _&&_, _||_}
-use mathlib.Core.List.{List, [], _∷_, _++_}
+use mathlib.Core.List.{List, [], _∷_}
 use mathlib.Core.Option.{Option, none, some}
-use Prim.Native.Nat.{ℕ, zero, suc, _+_, _-_, _<_, _≤_}
+use Prim.Native.Nat.{ℕ, suc, _+_, _-_, _≤_}
 use native.Mathlib.Omega.{arith}
 use lib.Dec.{eqb, leb}
 use lib.ListN.{length, getD, drop, length-drop}
 use lib.Seq.{drop-drop}
 use borrow.Author.Tests.{eqb-true, eqb-false, le-leb, not-true}
 use Rattle.format.specs.Bytes.{number, bytesAt, allZero}
-use Rattle.format.specs.Parts.{Kind, rule, information, sameKind, sectionKind, Part}
+use Rattle.format.specs.Parts.{Kind, rule, information, sameKind, sectionKind}
 use Rattle.format.specs.Rules.{Check, Section, hasRequired}
-use Rattle.format.specs.Reading.{Outcome, refused, found, fault, need, andThen, tested, told, idOf, stated, madeLength, partIn}
-use Rattle.format.specs.Reading.{kindBefore, ruleBefore, sectionChecks, closed, sectionRest, section, subsections}
-use Rattle.format.specs.declared.Answer.{Answer}
-use Rattle.format.specs.declared.Answer.the-variants.{Accepted, Refused}
+use Rattle.format.specs.Reading.{Outcome, refused, found, fault, andThen, tested, told, stated, madeLength, partIn}
+use Rattle.format.specs.Reading.{kindBefore, ruleBefore, sectionChecks, closed, sectionRest, section}
+use Rattle.format.specs.declared.Answer.the-variants.{Refused}
 use Rattle.format.proofs.Finding.{and-split, every-kind}
 use Rattle.format.proofs.Tests.{Hold, need-passed, then-found}
 use Rattle.format.proofs.Turns.{subsectionsFrom, subs-from, subs-none}
@@ -92,7 +91,7 @@ section-rest full x k s p e h l =
     ∙ ap₂ (λ (a : ℕ) (y : List ℕ). subsectionsFrom x k [] (p + m) a y) left (drop-drop m p s))
 
 -- A section without subsections whose counts make its length is found as it is.
-pub plain-rest : (full x : Bool) (k : Kind) (p : ℕ) (r : List ℕ) → madeLength k r ≡ stated r → sameKind rule k ≡ false → sameKind information k ≡ false
+plain-rest : (full x : Bool) (k : Kind) (p : ℕ) (r : List ℕ) → madeLength k r ≡ stated r → sameKind rule k ≡ false → sameKind information k ≡ false
     → sectionRest full x k p r ≡ found (record { head = partIn k r; subs = [] })
 unfolding sectionRest closed
 plain-rest full x k p r e a b =

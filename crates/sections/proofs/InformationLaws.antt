@@ -1,49 +1,29 @@
 -- Section 14: a turn of the loop over its subsections, and its end.
-use mathlib.Core.Path.{_≡_, refl, sym, ap, ap₂, _∙_, subst}
-use mathlib.Core.Bool.{Bool, true, false, not, _&&_, _||_}
+use mathlib.Core.Path.{_≡_, sym, ap, ap₂, _∙_}
+use mathlib.Core.Bool.{Bool, true, false, not, _||_}
 use mathlib.Core.List.{List, [], _∷_, _++_}
-use mathlib.Core.Logic.{_⊎_, inl, inr, ⊎-elim}
 use mathlib.Core.Option.{Option, none, some}
-use Prim.Native.Nat.{ℕ, zero, suc, _+_, _-_, _<_, _≤_}
+use Prim.Native.Nat.{ℕ, zero, _+_, _-_, _<_, _≤_}
 use native.Mathlib.Omega.{arith}
 use lib.Dec.{eqb}
-use lib.ListN.{length, drop, length-append}
-use borrow.Author.Tests.{eqb-true, eq-eqb, ne-eqb}
-use Rattle.format.specs.Bytes.{number, bytesAt}
-use Rattle.format.specs.Layout.{least}
-use Rattle.format.specs.Parts.{Kind, rule, information, protection, dates, tokenParameters, exportParameters, sectionId, tag, sameKind, isSubsection, subsectionKind, layout, Part}
-use Rattle.format.specs.Rules.{Section, has, ofKind, maskCovers, hasRequired}
-use Rattle.format.specs.Reading.{Outcome, refused, found, fault, need, andThen, told, stated, partIn, madeLength, subsection, subsections, closed, sectionRest}
-use Rattle.format.specs.declared.Answer.{Answer}
+use lib.ListN.{drop}
+use borrow.Author.Tests.{ne-eqb}
+use Rattle.format.specs.Parts.{Kind, information, protection, dates, tokenParameters, sameKind, subsectionKind, Part}
+use Rattle.format.specs.Rules.{has, ofKind, maskCovers}
+use Rattle.format.specs.Reading.{found, fault, need, andThen, told, stated, partIn, closed, sectionRest}
 use Rattle.format.specs.declared.Answer.the-variants.{Accepted, Refused}
-use Rattle.format.proofs.Finding.{kind-told, subsectionKind-sound, every-kind}
 use Rattle.format.proofs.Tests.{then-found, need-passed}
 use Rattle.format.proofs.Turns.{subsectionsFrom, subs-none}
-use Rattle.sections.specs.Refusals.{subRefusal, sectionRows}
+use Rattle.sections.specs.Refusals.{sectionRows}
 use Rattle.sections.specs.Loops.{InformationRead}
 use Rattle.sections.proofs.Heads.{section-rest}
-use Rattle.sections.proofs.Subs.{GoesOn, RefusedAs, refused-told, refused-then, refused-same, has-last, length-last}
-
--- ---- lists with one part more
-
-pub kind-last : (k : Kind) (us : List Part) (p : Part) → sameKind k (p .kind) ≡ false → ofKind k us ≡ [] → ofKind k (us ++ p ∷ []) ≡ []
-kind-last k [] p e h = ap (λ (b : Bool). elim b as (λ y. List Part) [ true ↦ p ∷ [] | false ↦ [] ]) e
-kind-last k (u ∷ us) p e h = go (sameKind k (u .kind)) h (λ q. kind-last k us p e q)
-  where
-    go : (b : Bool) → _≡_ {A = List Part} (elim b [ true ↦ u ∷ ofKind k us | false ↦ ofKind k us ]) []
-        → (ofKind k us ≡ [] → ofKind k (us ++ p ∷ []) ≡ [])
-        → _≡_ {A = List Part} (elim b [ true ↦ u ∷ ofKind k (us ++ p ∷ []) | false ↦ ofKind k (us ++ p ∷ []) ]) []
-    go true q ih = absurd (let z : _≡_ {A = ℕ} 0 1 = cc in omega arith)
-    go false q ih = ih q
+use Rattle.sections.proofs.Subs.{GoesOn, has-last, kind-other, length-last}
 
 -- ---- the tags of section 14
 
 -- The kind that a tag tells in section 14.
 abbrev told-by : Bool → Bool → Option Kind
 told-by a b = elim a [ true ↦ some protection | false ↦ elim b [ true ↦ some dates | false ↦ none ] ]
-
-tag-tells : (t : ℕ) → subsectionKind information t ≡ told-by (eqb 1 t) (eqb 2 t)
-tag-tells t = refl
 
 pub tag-one : (t : ℕ) → t ≡ 1 → subsectionKind information t ≡ some protection
 tag-one t e = ap (subsectionKind information) e
@@ -82,7 +62,7 @@ turn-on {s} {p} {e} {x} {q} {n} {t} k w h g r same a b c =
       done = w .done ++ u ∷ [];
       protections = has-last protection (w .done) u ∙ ap₂ (λ (y z : Bool). y || z) (w .protections) (ap (sameKind protection) same) ∙ a;
       dateds = has-last dates (w .done) u ∙ ap₂ (λ (y z : Bool). y || z) (w .dateds) (ap (sameKind dates) same) ∙ b;
-      unmasked = kind-last tokenParameters (w .done) u (ap (sameKind tokenParameters) same ∙ c) (w .unmasked);
+      unmasked = kind-other tokenParameters (w .done) u (ap (sameKind tokenParameters) same ∙ c) ∙ w .unmasked;
       rows = omega arith;
       few = omega arith;
       ends = omega arith;
@@ -103,14 +83,14 @@ pub mask-none : (us : List Part) → ofKind tokenParameters us ≡ [] → maskCo
 mask-none us e = rw e
 
 -- The end of section 14: its 0001 is required.
-pub information-closed : (full : Bool) (at first : ℕ) (r : List ℕ) (us : List Part) → ofKind tokenParameters us ≡ []
+information-closed : (full : Bool) (at first : ℕ) (r : List ℕ) (us : List Part) → ofKind tokenParameters us ≡ []
     → closed full at first (record { head = partIn information r; subs = us })
     ≡ need (not full || has protection us) (fault 20 at 0) (found (record { head = partIn information r; subs = us }))
 unfolding closed
 information-closed full at first r us m = need-passed (maskCovers us) (fault 18 _ 5) _ (mask-none us m)
 
 -- What the loop has read when it ends is all of the section.
-pub loop-end : {s : List ℕ} {p e : ℕ} {x : Bool} {q n : ℕ} {protected dated : Bool} (full : Bool) (w : InformationRead s p e x q n protected dated)
+loop-end : {s : List ℕ} {p e : ℕ} {x : Bool} {q n : ℕ} {protected dated : Bool} (full : Bool) (w : InformationRead s p e x q n protected dated)
     → e ≤ q → p + 10 ≤ e → e ≡ p + stated (drop p s)
     → sectionRest full x information p (drop p s)
     ≡ need (not full || protected) (fault 20 p 0) (found (record { head = partIn information (drop p s); subs = w .done }))
@@ -131,12 +111,3 @@ module _ {s : List ℕ} {p e : ℕ} {x : Bool} {q n : ℕ} {protected dated : Bo
   pub ends-missing : (not full || protected) ≡ false → Refused 20 p ≡ told sectionRows (sectionRest full x information p (drop p s))
   unfolding told need
   ends-missing b = sym (ap (told sectionRows) (loop-end full w h k l) ∙ rw b)
-
--- A flag that is set, or kept.
-pub or-true : (b : Bool) → (b || true) ≡ true
-or-true true = refl
-or-true false = refl
-
-pub or-false : (b : Bool) → (b || false) ≡ b
-or-false true = refl
-or-false false = refl

@@ -1,6 +1,6 @@
 -- Section 11: its tests as the code makes them, on the bytes at their places.
-use mathlib.Core.Path.{_≡_, refl, sym, ap, ap₂, _∙_}
-use mathlib.Core.Bool.{Bool, true, false, _&&_, _||_}
+use mathlib.Core.Path.{_≡_, sym, ap, ap₂, _∙_}
+use mathlib.Core.Bool.{Bool, true, false, _||_}
 use mathlib.Core.List.{List, [], _∷_}
 use mathlib.Core.Logic.{inl, inr, ⊎-elim}
 use Prim.Native.Nat.{ℕ, _+_, _/_, _<_, _≤_}
@@ -16,13 +16,13 @@ use Rattle.format.proofs.Slots.{length-at}
 use Rattle.sections.proofs.Laws.{at-drop, number-at, both-yes, first-not, second-not}
 
 -- A number between two bounds, or not.
-pub between-yes : (lo hi n : ℕ) → lo ≤ n → n ≤ hi → between lo hi n ≡ true
+between-yes : (lo hi n : ℕ) → lo ≤ n → n ≤ hi → between lo hi n ≡ true
 between-yes lo hi n a b = both-yes (le-leb lo n a) (le-leb n hi b)
 
-pub between-low : (lo hi n : ℕ) → n < lo → between lo hi n ≡ false
+between-low : (lo hi n : ℕ) → n < lo → between lo hi n ≡ false
 between-low lo hi n a = first-not (leb n hi) (lt-leb lo n a)
 
-pub between-high : (lo hi n : ℕ) → lo ≤ n → hi < n → between lo hi n ≡ false
+between-high : (lo hi n : ℕ) → lo ≤ n → hi < n → between lo hi n ≡ false
 between-high lo hi n a b = second-not (le-leb lo n a) (lt-leb n hi b)
 
 module _ (s : List ℕ) (p x y : ℕ) (room : p + 16 + x + y ≤ length s) (ex : x ≡ number (bytesAt s (p + 6) 2)) (ey : y ≡ number (bytesAt s (p + 10) 2)) where
@@ -39,10 +39,10 @@ module _ (s : List ℕ) (p x y : ℕ) (room : p + 16 + x + y ≤ length s) (ex :
   y-is = number-at s p 10 2 ey
 
   -- The exponent and the modulus at their places.
-  pub exponent-is : bytesAt (drop p s) 12 X ≡ bytesAt s (p + 12) x
+  exponent-is : bytesAt (drop p s) 12 X ≡ bytesAt s (p + 12) x
   exponent-is = at-drop s p 12 X ∙ ap (bytesAt s (p + 12)) (sym x-is)
 
-  pub modulus-is : bytesAt (drop p s) (12 + X) Y ≡ bytesAt s (p + 12 + x) y
+  modulus-is : bytesAt (drop p s) (12 + X) Y ≡ bytesAt s (p + 12 + x) y
   modulus-is =
       let e = x-is in
       let place : p + (12 + X) ≡ p + 12 + x = omega arith in

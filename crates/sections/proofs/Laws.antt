@@ -2,20 +2,21 @@
 use mathlib.Core.Path.{_≡_, refl, sym, ap, _∙_}
 use mathlib.Core.Bool.{Bool, true, false, not, _&&_}
 use mathlib.Core.List.{List, [], _∷_, _++_}
-use Prim.Native.Nat.{ℕ, zero, suc, _+_, _*_, _<_, _≤_}
+use Prim.Native.Nat.{ℕ, zero, suc, _+_, _<_, _≤_}
 use native.Mathlib.Nat.{add-zero}
 use native.Mathlib.Omega.{arith}
 use lib.Dec.{eqb, leb}
-use lib.ListN.{length, getD, take, drop, length-drop}
+use lib.ListN.{length, getD, take, drop}
 use lib.Seq.{drop-drop}
 use borrow.Author.Tests.{eq-eqb, ne-eqb, eqb-false, le-leb, lt-leb, leb-true, not-true}
-use Rattle.format.specs.Bytes.{numberFrom, number, bytesAt, allZero}
+use Rattle.format.specs.Bytes.{number, bytesAt, allZero}
 use Rattle.format.proofs.Finding.{and-split}
+use Rattle.fields.proofs.Lists.{zero-number}
 use Rattle.fields.proofs.Numbers.{number-none, number-more}
-use Rattle.format.specs.Rules.{Check, check, patternAllowed}
-use Rattle.format.specs.Reading.{Outcome, refused, found, need, tested, told, stated}
+use Rattle.format.specs.Rules.{Check, patternAllowed}
+use Rattle.format.specs.Reading.{stated}
 use Rattle.format.specs.declared.Answer.{Answer}
-use Rattle.format.specs.declared.Answer.the-variants.{Accepted, Refused}
+use Rattle.format.specs.declared.Answer.the-variants.{Refused}
 use Rattle.sections.specs.Refusals.{firstRefusal, unless, subHeadChecks}
 
 -- ---- bytes behind a place
@@ -24,20 +25,6 @@ use Rattle.sections.specs.Refusals.{firstRefusal, unless, subHeadChecks}
 pub at-drop : (s : List ℕ) (p o n : ℕ) → bytesAt (drop p s) o n ≡ bytesAt s (p + o) n
 unfolding bytesAt
 at-drop s p o n = ap (take n) (drop-drop o p s)
-
--- bytes are all 0 exactly when their number is
-zero-from : (bs : List ℕ) (a : ℕ) → 0 < a → 0 < numberFrom a bs
-zero-from [] a h = h
-zero-from (b ∷ bs) a h = zero-from bs (a * 256 + b) (omega arith)
-
-pub zero-number : (bs : List ℕ) → allZero bs ≡ eqb (number bs) 0
-unfolding allZero number
-zero-number [] = refl
-zero-number (zero ∷ bs) = zero-number bs
-zero-number (suc b ∷ bs) =
-    let h : 0 < numberFrom (0 * 256 + suc b) bs = zero-from bs (0 * 256 + suc b) (omega arith) in
-    ap (λ (x : Bool). x && allZero bs) (ne-eqb (suc b) 0 (λ e. omega arith))
-    ∙ sym (ne-eqb (numberFrom (0 * 256 + suc b) bs) 0 (λ e. omega arith))
 
 -- ---- the first refusal
 

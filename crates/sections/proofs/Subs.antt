@@ -1,9 +1,9 @@
 -- One subsection, by the number of its first refusal: the outcome that the definition gives.
 use mathlib.Core.Path.{_≡_, refl, sym, ap, ap₂, _∙_, subst}
-use mathlib.Core.Bool.{Bool, true, false, not, _&&_, _||_}
-use mathlib.Core.List.{List, [], _∷_, _++_}
+use mathlib.Core.Bool.{Bool, true, false, not, _||_, or-false, or-assoc}
+use mathlib.Core.List.{List, [], _∷_, _++_, append-nil}
 use mathlib.Core.Option.{Option, none, some}
-use Prim.Native.Nat.{ℕ, zero, suc, _+_, _-_, _<_, _≤_}
+use Prim.Native.Nat.{ℕ, suc, _+_, _-_, _<_, _≤_}
 use native.Mathlib.Nat.{add-zero}
 use native.Mathlib.Omega.{arith}
 use lib.Dec.{eqb, leb}
@@ -12,13 +12,13 @@ use lib.Seq.{drop-drop}
 use borrow.Author.Tests.{eqb-false, le-leb, lt-leb, not-true}
 use Rattle.format.specs.Bytes.{number, bytesAt}
 use Rattle.format.specs.Parts.{Kind, sameKind, subsectionKind, Part}
-use Rattle.format.specs.Rules.{Check, has}
+use Rattle.format.specs.Rules.{Check, has, ofKind}
 use Rattle.format.specs.Reading.{Fault, fault, place, Outcome, refused, found, need, andThen, tested, told, stated, partIn, subsectionChecks, subsection}
-use Rattle.format.specs.declared.Answer.{Answer}
-use Rattle.format.specs.declared.Answer.the-variants.{Accepted, Refused}
+use Rattle.format.specs.declared.Answer.the-variants.{Refused}
 use Rattle.format.proofs.Finding.{and-split, every-kind}
+use Rattle.format.proofs.Beginnings.{kind-join}
 use Rattle.format.proofs.Tests.{then-found}
-use Rattle.format.proofs.Turns.{subsectionsFrom, subs-none, subs-more, sub-step}
+use Rattle.format.proofs.Turns.{subsectionsFrom, subs-more, sub-step}
 use Rattle.sections.specs.Refusals.{firstRefusal, subRefusal}
 use Rattle.sections.proofs.Laws.{numbered, at-drop}
 
@@ -92,7 +92,7 @@ module _ (x : Bool) (o : Kind) (before : List Part) (at n : ℕ) (r : List ℕ) 
   kind-stops (some k) h = stops at (subsectionChecks x k (has k before) n r) (found (partIn k r)) h
 
   -- A subsection with a number is refused with it, at its place.
-  pub sub-stops : {m : ℕ} → m ≡ subRefusal x o before n r → (m ≡ 0 → ⊥) → RefusedAs (subsection x o before at n r) m at
+  sub-stops : {m : ℕ} → m ≡ subRefusal x o before n r → (m ≡ 0 → ⊥) → RefusedAs (subsection x o before at n r) m at
   unfolding subsection subRefusal by-kind by-number
   sub-stops e h =
       let told : Option Kind = subsectionKind o (number (bytesAt r 0 2)) in
@@ -195,19 +195,18 @@ module _ (s : List ℕ) (x : Bool) (o : Kind) (done : List Part) (q e : ℕ) (h 
 
 -- ---- lists with one part more
 
-or-none : (b : Bool) → (b || false) ≡ (false || b)
-or-none true = refl
-or-none false = refl
-
-pub or-assoc : (a b c : Bool) → (a || (b || c)) ≡ ((a || b) || c)
-or-assoc true b c = refl
-or-assoc false b c = refl
-
 pub has-last : (k : Kind) (us : List Part) (p : Part) → has k (us ++ p ∷ []) ≡ (has k us || sameKind k (p .kind))
-has-last k [] p = or-none (sameKind k (p .kind))
+has-last k [] p = or-false (sameKind k (p .kind))
 has-last k (u ∷ us) p =
     ap (λ (b : Bool). sameKind k (u .kind) || b) (has-last k us p)
-    ∙ or-assoc (sameKind k (u .kind)) (has k us) (sameKind k (p .kind))
+    ∙ sym (or-assoc (sameKind k (u .kind)) (has k us) (sameKind k (p .kind)))
+
+-- A part of another kind leaves the parts of this one.
+pub kind-other : (k : Kind) (us : List Part) (u : Part) → sameKind k (u .kind) ≡ false → ofKind k (us ++ u ∷ []) ≡ ofKind k us
+kind-other k us u e =
+    kind-join k us (u ∷ [])
+    ∙ ap (λ (b : Bool). ofKind k us ++ elim b as (λ y. List Part) [ true ↦ u ∷ [] | false ↦ [] ]) e
+    ∙ append-nil (ofKind k us)
 
 pub length-last : (us : List Part) (p : Part) → length (us ++ p ∷ []) ≡ suc (length us)
 length-last us p = length-append us (p ∷ []) ∙ omega arith

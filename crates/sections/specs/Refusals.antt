@@ -4,13 +4,13 @@ use mathlib.Core.List.{List, [], _∷_}
 use Prim.Native.Nat.{ℕ, zero, suc}
 use lib.Dec.{leb}
 use lib.ListN.{length, take}
-use mathlib.Core.Option.{Option, none, some}
+use mathlib.Core.Option.{none, some}
 use Rattle.format.specs.Bytes.{number, allZero, bytesAt}
 use Rattle.format.specs.Parts.{Kind, publicKey, Part, subsectionKind}
 use Rattle.format.specs.Rules.{Check, check, checks, Section, has}
 use Rattle.format.specs.Reading.{stated, partIn, subsectionChecks}
 use Rattle.format.specs.declared.Answer.{Answer}
-use Rattle.format.specs.declared.Answer.the-variants.{Accepted, Refused}
+use Rattle.format.specs.declared.Answer.the-variants.{Refused}
 
 -- the number of the first test that fails, 0 where all pass
 unfoldable pub firstRefusal : List Check → ℕ

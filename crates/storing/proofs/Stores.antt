@@ -8,6 +8,7 @@ use native.Mathlib.Omega.{arith}
 use lib.ListN.{length, getD, take, drop, set, length-append, drop-of-length-le}
 use lib.Seq.{sets, sets-eq, take-at, set-comm, drop-cons}
 use Rattle.format.specs.Bytes.{bigEndian}
+use Rattle.format.proofs.Elements.{four-sets}
 use Rattle.storing.specs.Storing.{Stored}
 
 -- two texts, one behind the other
@@ -88,16 +89,6 @@ two-stored l at n h =
     let k : at + 1 ≡ suc at = omega arith in
     ap₂ (λ (x j : ℕ). set (set l at x) j (n % 256)) e k
 
--- four bytes, one behind the other
-four-set : (l : List ℕ) (at w x y z : ℕ)
-    → set (set (set (set l at w) (at + 1) x) (at + 2) y) (at + 3) z ≡ sets l at (w ∷ x ∷ y ∷ z ∷ [])
-four-set l at w x y z =
-    let k : at + 1 ≡ suc at = omega arith in
-    let m : at + 2 ≡ suc (suc at) = omega arith in
-    let o : at + 3 ≡ suc (suc (suc at)) = omega arith in
-    ap₂ (λ (i j : ℕ). set (set (set (set l at w) i x) j y) (at + 3) z) k m
-    ∙ ap (λ (j : ℕ). set (set (set (set l at w) (suc at) x) (suc (suc at)) y) j z) o
-
 -- a number in four bytes
 pub four-stored : (l : List ℕ) (at n : ℕ) → n < 4294967296
     → set (set (set (set l at (n / 16777216)) (at + 1) (n / 65536 % 256)) (at + 2) (n / 256 % 256)) (at + 3) (n % 256)
@@ -105,5 +96,5 @@ pub four-stored : (l : List ℕ) (at n : ℕ) → n < 4294967296
 four-stored l at n h =
     let e : n / 16777216 ≡ n / 256 / 256 / 256 % 256 = omega arith in
     let f : n / 65536 % 256 ≡ n / 256 / 256 % 256 = omega arith in
-    four-set l at (n / 16777216) (n / 65536 % 256) (n / 256 % 256) (n % 256)
+    four-sets l at (n / 16777216) (n / 65536 % 256) (n / 256 % 256) (n % 256)
     ∙ ap₂ (λ (x y : ℕ). sets l at (x ∷ y ∷ n / 256 % 256 ∷ n % 256 ∷ [])) e f

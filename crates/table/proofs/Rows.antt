@@ -8,7 +8,7 @@ use native.Mathlib.Omega.{arith}
 use lib.Dec.{eqb}
 use lib.ListN.{length, drop, length-append, length-drop}
 use lib.Seq.{drop-at, drop-drop}
-use borrow.Author.Tests.{eqb-true, not-true}
+use borrow.Author.Tests.{not-true}
 use Rattle.format.specs.Layout.{fits, write, least}
 use Rattle.format.specs.Parts.{Kind, rule, information, sectionId, tag, isSubsection, sameKind, layout, Part, size, subsectionsLength, span, writeParts, joins}
 use Rattle.format.specs.Reading.{holdsSubs, madeLength}
@@ -16,7 +16,7 @@ use Rattle.format.proofs.Finding.{and-split, every-kind, sameKind-eq}
 use Rattle.format.proofs.Fitting.{part-fits}
 use Rattle.format.proofs.Unique.{size-any, size-pos}
 use Rattle.format.proofs.PartForm.{Framed, part-read}
-use Rattle.format.proofs.Grouping.{is-false, span-le, span-section}
+use Rattle.format.proofs.Grouping.{none-follow, span-le, span-section}
 use Rattle.format.proofs.Sound.{fixed-made}
 use Rattle.format.proofs.Complete.{owner-holds}
 use Rattle.table.specs.Filling.{ownLength}
@@ -91,22 +91,9 @@ other-id k f h n =
 
 -- A section that holds no subsections is followed by none.
 no-subs : (k : Kind) (qs : List Part) → isSubsection k ≡ false → holdsSubs k ≡ false → joins (sectionId k) qs ≡ true → subsectionsLength qs ≡ 0
-no-subs k [] f h j = refl
-no-subs k (u ∷ us) f h j = go (isSubsection (u .kind)) refl
-  where
-    own : isSubsection (u .kind) ≡ true → sectionId (u .kind) ≡ sectionId k
-    own e =
-        eqb-true _ _
-        (sym (ap (λ (b : Bool). not b || eqb (sectionId (u .kind)) (sectionId k)) e)
-        ∙ and-split (not (isSubsection (u .kind)) || eqb (sectionId (u .kind)) (sectionId k)) (joins (sectionId (u .kind)) us) j .0)
-
-    go : (b : Bool) → isSubsection (u .kind) ≡ b → subsectionsLength (u ∷ us) ≡ 0
-    go false e = is-false (isSubsection (u .kind)) (size u + subsectionsLength us) 0 e
-    go true e =
-        absurd
-        (let z : true ≡ false = sym (owner-holds (u .kind) k e (own e) f) ∙ h in
-        let y : _≡_ {A = ℕ} 0 1 = cc in
-        omega arith)
+no-subs k qs f h j =
+    none-follow (sectionId k) qs
+    (λ u e o. let z : true ≡ false = sym (owner-holds u k e o f) ∙ h in let y : _≡_ {A = ℕ} 0 1 = cc in omega arith) j
 
 -- The length of a section's own fields, from its id and the length that it states.
 pub own-size : (s : List ℕ) (p : ℕ) (q : Part) (qs : List Part) → Here s p q qs → isSubsection (q .kind) ≡ false

@@ -1,13 +1,13 @@
 -- The second pass, turn by turn: where it starts, a section's row, a subsection's row, and where it ends.
 use mathlib.Core.Path.{_≡_, refl, sym, ap, ap₂, _∙_, subst}
-use mathlib.Core.Bool.{Bool, true, false, not, _||_}
+use mathlib.Core.Bool.{Bool, true, false}
 use mathlib.Core.List.{List, [], _∷_, map}
 use Prim.Native.Nat.{ℕ, suc, _+_, _*_, _<_, _≤_}
 use native.Mathlib.Omega.{arith}
-use lib.Dec.{eqb, ltb}
-use lib.ListN.{length, getD, take, drop, set, length-drop}
+use lib.Dec.{ltb}
+use lib.ListN.{length, getD, take, drop, length-drop}
 use lib.Seq.{sets, length-sets, take-all, drop-drop}
-use borrow.Author.Tests.{ne-eqb, eqb-true, ltb-true}
+use borrow.Author.Tests.{ne-eqb, ltb-true}
 use Rattle.format.specs.Bytes.{number, bytesAt}
 use Rattle.format.specs.Parts.{Kind, sectionId, tag, kindNumber, isSubsection, Part, size, subsectionsLength, span, joins}
 use Rattle.format.specs.Rules.{Section}
@@ -15,9 +15,9 @@ use Rattle.format.specs.Reading.{idOf, stated, partsOf}
 use Rattle.format.specs.Table.{placed, rows, tableOf}
 use Rattle.format.proofs.Numbers.{number-one}
 use Rattle.format.proofs.Tests.{found-inj}
-use Rattle.format.proofs.Finding.{and-split, every-kind, no-tag, sectionId-pos}
+use Rattle.format.proofs.Finding.{every-kind, no-tag, sectionId-pos}
 use Rattle.format.proofs.PartForm.{Framed}
-use Rattle.format.proofs.Grouping.{is-true, is-false, span-sub, span-section}
+use Rattle.format.proofs.Grouping.{is-true, is-false, joins-first, joins-behind, none-follow, span-sub, span-section}
 use Rattle.format.proofs.Accepted.{reading-sound, whole-token, good-choice}
 use Rattle.table.specs.Filling.{Fillable, filled, Left, Filling, ownLength}
 use Rattle.table.proofs.Rows.{Here, here, section-here, sub-here, own-size}
@@ -37,16 +37,6 @@ unfolding ownLength
 own-stated i n a b =
     sym (ap₂ (λ (x y : Bool). elim x as (λ z. ℕ) [ true ↦ 20 | false ↦ elim y as (λ z. ℕ) [ true ↦ 10 | false ↦ n ] ])
     (ne-eqb i 0x12 a) (ne-eqb i 0x14 b))
-
--- ---- a row of four stores
-
-pub four-stores : (t : List ℕ) (m a b c d : ℕ) → set (set (set (set t m a) (m + 1) b) (m + 2) c) (m + 3) d ≡ sets t m (a ∷ b ∷ c ∷ d ∷ [])
-four-stores t m a b c d =
-    let one : m + 1 ≡ suc m = omega arith in
-    let two : m + 2 ≡ suc (suc m) = omega arith in
-    let three : m + 3 ≡ suc (suc (suc m)) = omega arith in
-    ap₂ (λ (x y : ℕ). set (set (set (set t m a) x b) y c) (m + 3) d) one two
-    ∙ ap (λ (x : ℕ). set (set (set (set t m a) (suc m) b) (suc (suc m)) c) x d) three
 
 -- ---- what the part at p says
 
@@ -110,10 +100,10 @@ module _ {s t₀ t : List ℕ} {p e i owner n : ℕ} where
           }
 
   -- Where p is the end of the section before, a section stands there, and elsewhere a subsection.
-  pub is-section : (w : Next s t₀ t p e i owner n) → p ≡ e → isSubsection (w .part .kind) ≡ false
+  is-section : (w : Next s t₀ t p e i owner n) → p ≡ e → isSubsection (w .part .kind) ≡ false
   is-section w h = section-here (w .part) (w .behind) (omega (arith, w .left .ends))
 
-  pub is-sub : (w : Next s t₀ t p e i owner n) → (p ≡ e → ⊥) → isSubsection (w .part .kind) ≡ true
+  is-sub : (w : Next s t₀ t p e i owner n) → (p ≡ e → ⊥) → isSubsection (w .part .kind) ≡ true
   is-sub w h = sub-here (w .part) (w .behind) (λ z. h (omega (arith, w .left .ends)))
 
   -- The id of the section at p is a byte.
@@ -149,8 +139,7 @@ module _ {s t₀ t u : List ℕ} {p e i owner n : ℕ} where
       let f = is-section w h in
       let el′ : l ≡ span q qs = stated-here s p q qs (w .at) el in
       let ei : getD s p 0 ≡ sectionId (q .kind) = id-here s p q qs (w .at) f (omega (arith, w .four)) in
-      let j : joins (sectionId (q .kind)) qs ≡ true =
-      and-split (not (isSubsection (q .kind)) || eqb (sectionId (q .kind)) i) (joins (sectionId (q .kind)) qs) (w .left .owned) .1 in
+      let j = joins-behind i q qs (w .left .owned) in
       let size′ : m ≡ size q = em ∙ ap₂ ownLength ei el′ ∙ own-size s p q qs (w .at) f j in
       let sp = span-section q qs f in
       let lu = ap length eu ∙ length-sets t (4 * n) (getD s p 0 * 65536 ∷ p ∷ l ∷ n ∷ []) in
@@ -187,8 +176,7 @@ module _ {s t₀ t u : List ℕ} {p e i owner n : ℕ} where
       let el′ : l ≡ span q qs = stated-here s p q qs (w .at) el in
       let size′ : l ≡ size q = el′ ∙ span-sub q qs f in
       let eg′ : g ≡ tag (q .kind) = tag-here s p q qs (w .at) f eg in
-      let js = and-split (not (isSubsection (q .kind)) || eqb (sectionId (q .kind)) i) (joins (sectionId (q .kind)) qs) (w .left .owned) in
-      let ei : sectionId (q .kind) ≡ i = eqb-true _ _ (sym (ap (λ (b : Bool). not b || eqb (sectionId (q .kind)) i) f) ∙ js .0) in
+      let ei : sectionId (q .kind) ≡ i = joins-first i q qs (w .left .owned) f in
       let sp : subsectionsLength (q ∷ qs) ≡ size q + subsectionsLength qs = is-true (isSubsection (q .kind)) (size q + subsectionsLength qs) 0 f in
       let lu = ap length eu ∙ length-sets t (4 * n) ((i * 65536 + g) ∷ p ∷ l ∷ owner ∷ []) in
       let ek : i * 65536 + g ≡ kindNumber (q .kind) = omega (arith, ei, eg′) in (
@@ -202,7 +190,7 @@ module _ {s t₀ t u : List ℕ} {p e i owner n : ℕ} where
             short = w .left .short;
             bytes = ap (λ (a : ℕ). drop (p + a) s) size′ ∙ w .at .behind;
             ends = omega (arith, w .left .ends);
-            owned = ap (λ (a : ℕ). joins a qs) (sym ei) ∙ js .1;
+            owned = ap (λ (a : ℕ). joins a qs) (sym ei) ∙ joins-behind i q qs (w .left .owned);
             byte = w .left .byte;
             owners = omega (arith, w .left .owners);
             few = omega (arith, w .left .few, w .at .least);
@@ -218,18 +206,7 @@ module _ {s t₀ t u : List ℕ} {p e i owner n : ℕ} where
 
 -- No subsection stands first.
 pub first-section : (ps : List Part) → joins 0 ps ≡ true → subsectionsLength ps ≡ 0
-first-section [] j = refl
-first-section (q ∷ qs) j = go (isSubsection (q .kind)) refl
-  where
-    go : (b : Bool) → isSubsection (q .kind) ≡ b → subsectionsLength (q ∷ qs) ≡ 0
-    go false f = is-false (isSubsection (q .kind)) (size q + subsectionsLength qs) 0 f
-    go true f =
-        absurd
-        (let z : sectionId (q .kind) ≡ 0 =
-        eqb-true _ _
-        (sym (ap (λ (b : Bool). not b || eqb (sectionId (q .kind)) 0) f)
-        ∙ and-split (not (isSubsection (q .kind)) || eqb (sectionId (q .kind)) 0) (joins (sectionId (q .kind)) qs) j .0) in
-        omega (arith, sectionId-pos (q .kind)))
+first-section ps j = none-follow 0 ps (λ k s e. omega (arith, sectionId-pos k)) j
 
 pub start : {s t : List ℕ} → Fillable s t → Filling s t t 8 8 0 0 0
 start {s} {t} f =

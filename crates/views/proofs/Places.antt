@@ -1,19 +1,17 @@
 -- Going over the parts of an accepted token: where it starts, the part at a place, its row, and the place behind it.
 use mathlib.Core.Path.{_≡_, sym, ap, ap₂, _∙_}
-use mathlib.Core.Bool.{Bool, true, false, not, _||_}
+use mathlib.Core.Bool.{true, false}
 use mathlib.Core.List.{List, [], _∷_}
 use Prim.Native.Nat.{ℕ, _+_, _*_, _<_, _≤_}
 use native.Mathlib.Omega.{arith}
-use lib.Dec.{eqb}
 use lib.ListN.{length, getD, drop, length-drop}
 use lib.Seq.{take-all}
-use borrow.Author.Tests.{eqb-true}
 use Rattle.format.specs.Bytes.{number, bytesAt}
 use Rattle.format.specs.Parts.{sectionId, kindNumber, isSubsection, Part, size, span, subsectionsLength, joins, writeParts}
 use Rattle.format.specs.Reading.{idOf, stated, partsOf}
 use Rattle.format.specs.declared.Row.{Row}
-use Rattle.format.proofs.Finding.{and-split, no-tag}
-use Rattle.format.proofs.Grouping.{is-true, is-false, span-sub, span-section}
+use Rattle.format.proofs.Finding.{no-tag}
+use Rattle.format.proofs.Grouping.{is-true, is-false, joins-first, joins-behind, span-sub, span-section}
 use Rattle.format.proofs.Accepted.{reading-sound, whole-token, good-choice}
 use Rattle.table.specs.Filling.{ownLength}
 use Rattle.table.proofs.Rows.{Here, here, section-here, sub-here, own-size}
@@ -72,7 +70,7 @@ module _ {s : List ℕ} {p : Place} where
   is-sub q qs l h = sub-here q qs (λ z. h (omega (arith, l .ends)))
 
   -- The id of the section at the place.
-  pub id-at : (q : Part) (qs : List Part) → Left s p (q ∷ qs) → p .at ≡ p .end → getD s (p .at) 0 ≡ sectionId (q .kind)
+  id-at : (q : Part) (qs : List Part) → Left s p (q ∷ qs) → p .at ≡ p .end → getD s (p .at) 0 ≡ sectionId (q .kind)
   id-at q qs l h =
       let a = there q qs l in
       id-here s (p .at) q qs a (is-section q qs l h) (omega (arith, a .ends, a .least))
@@ -82,10 +80,7 @@ module _ {s : List ℕ} {p : Place} where
 
   -- The section of the subsection at the place has the place's id.
   sub-id : (q : Part) (qs : List Part) → Left s p (q ∷ qs) → (p .at ≡ p .end → ⊥) → sectionId (q .kind) ≡ p .id
-  sub-id q qs l h =
-      eqb-true _ _
-      (sym (ap (λ (b : Bool). not b || eqb (sectionId (q .kind)) (p .id)) (is-sub q qs l h))
-      ∙ and-split (not (isSubsection (q .kind)) || eqb (sectionId (q .kind)) (p .id)) (joins (sectionId (q .kind)) qs) (l .owned) .0)
+  sub-id q qs l h = joins-first (p .id) q qs (l .owned) (is-sub q qs l h)
 
   -- ---- the row
 
@@ -116,8 +111,7 @@ module _ {s : List ℕ} {p : Place} where
       let f = is-section q qs y h in
       let e′ : l ≡ span q qs = stated-here s (p .at) q qs a e in
       let i : getD s (p .at) 0 ≡ sectionId (q .kind) = id-at q qs y h in
-      let j : joins (sectionId (q .kind)) qs ≡ true =
-      and-split (not (isSubsection (q .kind)) || eqb (sectionId (q .kind)) (p .id)) (joins (sectionId (q .kind)) qs) (y .owned) .1 in
+      let j = joins-behind (p .id) q qs (y .owned) in
       let n : m ≡ size q = d ∙ ap₂ ownLength i e′ ∙ own-size s (p .at) q qs a f j in
       let sp = span-section q qs f in
       record {
@@ -144,7 +138,6 @@ module _ {s : List ℕ} {p : Place} where
       let a = there q qs y in
       let f = is-sub q qs y h in
       let n : l ≡ size q = stated-here s (p .at) q qs a e ∙ span-sub q qs f in
-      let js = and-split (not (isSubsection (q .kind)) || eqb (sectionId (q .kind)) (p .id)) (joins (sectionId (q .kind)) qs) (y .owned) in
       let i : sectionId (q .kind) ≡ p .id = sub-id q qs y h in
       let sp : subsectionsLength (q ∷ qs) ≡ size q + subsectionsLength qs = is-true (isSubsection (q .kind)) (size q + subsectionsLength qs) 0 f in
       record {
@@ -153,7 +146,7 @@ module _ {s : List ℕ} {p : Place} where
           short = y .short;
           bytes = ap (λ (x : ℕ). drop (p .at + x) s) n ∙ a .behind;
           ends = omega (arith, y .ends);
-          owned = ap (λ (x : ℕ). joins x qs) (sym i) ∙ js .1;
+          owned = ap (λ (x : ℕ). joins x qs) (sym i) ∙ joins-behind (p .id) q qs (y .owned);
           byte = y .byte;
           owners = omega (arith, y .owners);
           few = omega (arith, y .few, a .least);

@@ -24,7 +24,7 @@ stays at End k = refl
 stays at (Stopped n p) k = refl
 
 -- Where a step leads nowhere, all steps behind it are the same.
-pub out : (bs : List ℕ) (at n : ℕ) → at ≡ placeBehind at (stepAt bs at) → stepAt bs at ≡ stepBehind bs at n
+out : (bs : List ℕ) (at n : ℕ) → at ≡ placeBehind at (stepAt bs at) → stepAt bs at ≡ stepBehind bs at n
 unfolding stepBehind
 out bs at zero e = refl
 out bs at (suc n) e = out bs at n e ∙ ap (λ (p : ℕ). stepBehind bs p n) e
@@ -36,7 +36,7 @@ more bs at zero h e = absurd (omega arith)
 more bs at (suc n) h e = rw (sub-one, e)
 
 -- None is left.
-pub none : (bs : List ℕ) (at n : ℕ) → n ≡ 0 → stepAt bs at ≡ stepBehind bs at n
+none : (bs : List ℕ) (at n : ℕ) → n ≡ 0 → stepAt bs at ≡ stepBehind bs at n
 unfolding stepBehind
 none bs at zero e = refl
 none bs at (suc n) e = absurd (omega arith)

@@ -1,13 +1,9 @@
 -- The reading first, then the field.
-use mathlib.Core.Path.{_≡_, sym, _∙_}
+use mathlib.Core.Path.{sym, _∙_}
 use Rattle.lookup.proofs.Laws.{whole, field-refused}
 use borrow.Author.Needs.{needs}
 use Rattle.lookup.proofs.field_at.Statement.{statement}
 use Rattle.lookup.proofs.field_at.Tie as tie
-use Rattle.lookup.proofs.field_at.Reads as reads
-use Rattle.lookup.proofs.field_at.Lts as lts
-use Rattle.reading.proofs.read.Reads as read-reads
-use Rattle.views.proofs.field_in.Reads as field-in-reads
 
 -- src/lib.rt:15:9
 read-requires : tie.Need-read-requires

@@ -1,13 +1,9 @@
 -- The reading first, then the step.
-use mathlib.Core.Path.{_≡_, sym, _∙_}
+use mathlib.Core.Path.{sym, _∙_}
 use Rattle.lookup.proofs.Laws.{whole, walk-refused}
 use borrow.Author.Needs.{needs}
 use Rattle.lookup.proofs.step.Statement.{statement}
 use Rattle.lookup.proofs.step.Tie as tie
-use Rattle.lookup.proofs.step.Reads as reads
-use Rattle.lookup.proofs.step.Lts as lts
-use Rattle.reading.proofs.read.Reads as read-reads
-use Rattle.views.proofs.step_in.Reads as step-in-reads
 
 -- src/lib.rt:50:9
 read-requires : tie.Need-read-requires

@@ -1,14 +1,11 @@
 -- Where the field lies, as a part of the token.
-use mathlib.Core.Path.{_≡_, sym, ap, _∙_}
+use mathlib.Core.Path.{sym, ap, _∙_}
 use native.Mathlib.Omega.{arith}
 use Rattle.format.specs.Views.{bytesThere, view}
 use Rattle.lookup.proofs.Laws.{field-within, nothing-there, part-there}
 use borrow.Author.Needs.{needs}
 use Rattle.lookup.proofs.view.Statement.{statement}
 use Rattle.lookup.proofs.view.Tie as tie
-use Rattle.lookup.proofs.view.Reads as reads
-use Rattle.lookup.proofs.view.Lts as lts
-use Rattle.lookup.proofs.field_at.Reads as field-at-reads
 
 -- src/lib.rt:26:9
 field-at-requires : tie.Need-field-at-requires

@@ -1,12 +1,9 @@
 -- Where the field lies, as an answer.
-use mathlib.Core.Path.{_≡_, sym, ap, _∙_}
+use mathlib.Core.Path.{sym, ap, _∙_}
 use Rattle.format.specs.Views.{whetherThere, viewAnswer}
 use borrow.Author.Needs.{needs}
 use Rattle.lookup.proofs.view_answer.Statement.{statement}
 use Rattle.lookup.proofs.view_answer.Tie as tie
-use Rattle.lookup.proofs.view_answer.Reads as reads
-use Rattle.lookup.proofs.view_answer.Lts as lts
-use Rattle.lookup.proofs.field_at.Reads as field-at-reads
 
 -- src/lib.rt:39:9
 field-at-requires : tie.Need-field-at-requires

@@ -3,7 +3,7 @@ use Rattle.sections.specs.Refusals.{subHeadChecks}
 use Rattle.sections.proofs.Laws.{stop, pass, none, zero-yes, zero-not, number-at, at-least, below, byte-number, both-yes, first-not, second-not}
 use Rattle.format.specs.Bytes.{number, bytesAt}
 use borrow.Author.Tests.{le-leb, lt-leb}
-use lib.ListN.{length, drop}
+use lib.ListN.{drop}
 use native.Mathlib.Omega.{arith}
 use Prim.Native.Nat.{_+_}
 use mathlib.Core.Bool.{not}

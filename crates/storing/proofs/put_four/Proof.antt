@@ -4,8 +4,6 @@ use borrow.Author.Needs.{needs}
 use Rattle.storing.proofs.Stores.{four-stored}
 use Rattle.storing.proofs.put_four.Statement.{statement}
 use Rattle.storing.proofs.put_four.Tie as tie
-use Rattle.storing.proofs.put_four.Reads as reads
-use Rattle.storing.proofs.put_four.Lts as lts
 
 -- src/lib.rt:38:16
 cast-line : tie.Need-cast-line

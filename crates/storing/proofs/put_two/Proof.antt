@@ -5,8 +5,6 @@ use borrow.Author.Needs.{needs}
 use Rattle.storing.proofs.Stores.{two-stored}
 use Rattle.storing.proofs.put_two.Statement.{statement}
 use Rattle.storing.proofs.put_two.Tie as tie
-use Rattle.storing.proofs.put_two.Reads as reads
-use Rattle.storing.proofs.put_two.Lts as lts
 
 -- src/lib.rt:28:16
 cast-line : tie.Need-cast-line

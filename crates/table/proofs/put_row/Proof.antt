@@ -1,5 +1,5 @@
 -- Four stores make the row.
-use Rattle.table.proofs.Steps.{four-stores}
+use Rattle.format.proofs.Elements.{four-sets}
 use native.Mathlib.Omega.{arith}
 use Prim.Native.Nat.{_*_}
 use lib.ListN.{length-set}
@@ -47,7 +47,7 @@ same-length : tie.Need-same-length
 same-length c = search needs
 
 returns : tie.Need-returns
-returns c = four-stores (c .args .table .now) (4 * c .args .n) (c .args .kind) (c .args .offset) (c .args .length) (c .args .owner)
+returns c = four-sets (c .args .table .now) (4 * c .args .n) (c .args .kind) (c .args .offset) (c .args .length) (c .args .owner)
 
 pub put-row-spec : {M : Type 1} → statement M
 put-row-spec =

@@ -3,8 +3,6 @@ use Rattle.walker.proofs.Laws.{stops, by-count}
 use borrow.Author.Needs.{needs}
 use Rattle.walker.proofs.goes_on.Statement.{statement}
 use Rattle.walker.proofs.goes_on.Tie as tie
-use Rattle.walker.proofs.goes_on.Reads as reads
-use Rattle.walker.proofs.goes_on.Lts as lts
 
 enum-told : tie.Need-enum-told
 enum-told c = search needs

@@ -3,8 +3,6 @@ use Rattle.walker.proofs.Laws.{stays}
 use borrow.Author.Needs.{needs}
 use Rattle.walker.proofs.place_behind.Statement.{statement}
 use Rattle.walker.proofs.place_behind.Tie as tie
-use Rattle.walker.proofs.place_behind.Reads as reads
-use Rattle.walker.proofs.place_behind.Lts as lts
 
 -- src/lib.rt:16:25
 enum-known-s : tie.Need-enum-known-s

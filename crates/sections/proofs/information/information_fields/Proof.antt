@@ -1,5 +1,4 @@
 use Rattle.sections.proofs.Laws.{stop, pass, none, zero-yes, zero-not, at-most, above}
-use Rattle.sections.proofs.Laws.{stop, pass, none, zero-yes, zero-not}
 use borrow.Author.Needs.{needs}
 use Rattle.sections.proofs.information.information_fields.Statement.{statement}
 use Rattle.sections.proofs.information.information_fields.Tie as tie

@@ -2,7 +2,6 @@
 use Rattle.sections.proofs.InformationLaws.{tag-one, tag-two, tag-unknown}
 use Rattle.sections.proofs.Subs.{sub-short, sub-unknown, sub-known, at-here}
 use Rattle.format.specs.Parts.{information, protection, dates}
-use Rattle.format.specs.Bytes.{number}
 use lib.ListN.{drop}
 use mathlib.Core.Path.{sym, _∙_}
 use borrow.Author.Needs.{needs}

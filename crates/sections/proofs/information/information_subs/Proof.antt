@@ -1,9 +1,7 @@
 -- The loop over the subsections of section 14: what is read from here is what is read from the first one on.
-use Rattle.sections.proofs.InformationLaws.{kind-one, kind-two, turn-on, information-rest, ends-there, ends-missing, or-true, or-false}
--- The loop over the subsections of section 14: what is read from here is what is read from the first one on.
 use Rattle.format.specs.Reading.{told}
 use mathlib.Core.List.{[]}
-use Rattle.sections.proofs.InformationLaws.{kind-one, kind-two, turn-on, information-rest, ends-there, ends-missing, or-true, or-false}
+use Rattle.sections.proofs.InformationLaws.{kind-one, kind-two, turn-on, information-rest, ends-there, ends-missing}
 use Rattle.sections.proofs.Subs.{refused-told, refused-same, refused-then, loop-stops, loop-room, loop-on}
 use Rattle.sections.specs.Loops.{InformationRead}
 use Rattle.sections.specs.Refusals.{sectionRows}
@@ -13,7 +11,7 @@ use mathlib.Core.Logic.{⊎-elim}
 use borrow.Author.Tests.{not-true, not-false}
 use native.Mathlib.Omega.{arith}
 use Prim.Native.Nat.{_-_, _≤_}
-use mathlib.Core.Bool.{Bool, not, _||_}
+use mathlib.Core.Bool.{Bool, not, _||_, or-true, or-false}
 use mathlib.Core.Path.{refl, sym, _∙_, ap, ap₂}
 use Rattle.sections.proofs.information.information_subs.Statement.{statement}
 use Rattle.sections.proofs.information.information_subs.Tie as tie

@@ -4,7 +4,7 @@ use Rattle.sections.specs.Refusals.{headChecks}
 use Rattle.sections.proofs.Laws.{stop, pass, none, head-stop, head-pass, number-at}
 use Rattle.format.specs.Bytes.{number, bytesAt}
 use borrow.Author.Tests.{eq-eqb, ne-eqb}
-use lib.ListN.{length, drop}
+use lib.ListN.{drop}
 use native.Mathlib.Omega.{arith}
 use Prim.Native.Nat.{_+_}
 use mathlib.Core.Path.{refl}

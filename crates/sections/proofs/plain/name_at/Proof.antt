@@ -1,7 +1,7 @@
 -- Section 13: its head and its length.
 use Rattle.sections.specs.Refusals.{headChecks}
 use Rattle.sections.proofs.Laws.{stop, pass, none, head-stop, head-pass, equal, unequal}
-use lib.ListN.{length, drop}
+use lib.ListN.{drop}
 use mathlib.Core.Path.{refl}
 use borrow.Author.Needs.{needs}
 use Rattle.sections.proofs.plain.name_at.Statement.{statement}
