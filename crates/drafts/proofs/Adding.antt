@@ -23,7 +23,7 @@ use Rattle.format.proofs.Grouping.{Grouped, all-split, all-map}
 use Rattle.format.proofs.Sound.{GoodPart, GoodSub, GoodSection, subs-of}
 use Rattle.format.proofs.Flat.{grouped}
 use Rattle.format.proofs.Accepted.{reading-sound}
-use Rattle.format.proofs.Changes.{placeBehind}
+use Rattle.format.proofs.Changes.{sectionsEnd}
 use Rattle.contents.proofs.Headers.{lengths}
 use Rattle.drafts.specs.Adding.{Reads, Standing, lastPlace, refusedAfter, ownFirst, appended, sectionAdded, subsectionAdded, holdsSubsections, fixedFields}
 use Rattle.drafts.specs.Tiling.{here, Tiled, LastAt, LastOf, LastSection}
@@ -32,7 +32,7 @@ use Rattle.drafts.specs.declared.last.Last.the-variants.{At, Empty, Brok
 use Rattle.drafts.proofs.last.Last.{the-type}
 use Rattle.drafts.proofs.Additions.{last-behind, id-known}
 use Rattle.drafts.proofs.Tiling.{laid, laid-tiled, tiled-last}
-use Rattle.drafts.proofs.Cutting.{Laid, last-read, sectionBytes, subBytes, subs-laid, subs-state, draft-laid}
+use Rattle.drafts.proofs.LaidSections.{Laid, last-read, sectionBytes, subBytes, subs-laid, subs-state, draft-laid}
 use Rattle.drafts.proofs.Calls.{kept, own-first, appended-passed, id-at}
 use Rattle.drafts.proofs.Fronts.{section-front}
 use Rattle.drafts.proofs.SubsectionFronts.{sub-front, head-fixed, section-id, last-bytes}

@@ -25,7 +25,7 @@ use Rattle.format.proofs.Sound.{GoodSection, subs-of}
 use Rattle.format.proofs.Flat.{grouped, flat-joins}
 use Rattle.format.proofs.Accepted.{reading-sound}
 use Rattle.format.proofs.Writing.{draft-front, draft-header}
-use Rattle.format.proofs.Changes.{restate, placeBehind, section-added, sub-added}
+use Rattle.format.proofs.Changes.{restate, sectionsEnd, section-added, sub-added}
 use Rattle.format.proofs.Additions.{any-draft}
 use Rattle.drafts.specs.Adding.{lastPlace, grown, appended, unfit, sectionAdded, subsectionAdded}
 use Rattle.drafts.proofs.Sections.{id-small, stands-at, place-more}
@@ -129,21 +129,21 @@ section-made k fs d w t s f m l a = same-written d (sym (section-same k fs d w t
 
 -- The last section stands behind the others.
 pub last-behind : (a : ℕ) (pre ts : List Section) (t : Section) → All Grouped ts
-    → lastPlace a (placeBehind pre) (ts ++ t ∷ []) ≡ placeBehind (pre ++ ts)
-last-behind a pre [] t g = ap placeBehind (sym (append-nil pre))
+    → lastPlace a (sectionsEnd pre) (ts ++ t ∷ []) ≡ sectionsEnd (pre ++ ts)
+last-behind a pre [] t g = ap sectionsEnd (sym (append-nil pre))
 last-behind a pre (q ∷ ts) t g =
-    ap (λ (x : ℕ). lastPlace (placeBehind pre) x (ts ++ t ∷ [])) (sym (place-more pre q (g .0)))
-    ∙ last-behind (placeBehind pre) (pre ++ q ∷ []) ts t (g .1)
-    ∙ ap placeBehind (append-assoc pre (q ∷ []) ts)
+    ap (λ (x : ℕ). lastPlace (sectionsEnd pre) x (ts ++ t ∷ [])) (sym (place-more pre q (g .0)))
+    ∙ last-behind (sectionsEnd pre) (pre ++ q ∷ []) ts t (g .1)
+    ∙ ap sectionsEnd (append-assoc pre (q ∷ []) ts)
 
 sub-grown : (d : List ℕ) (ts : List Section) (t : Section) (p : Part) (w : List ℕ) → Bytes d → reading false d ≡ found (ts ++ t ∷ [])
     → isSubsection (p .kind) ≡ true → length w ≡ size p → w ≡ write (size p) (layout (p .kind)) (p .fields)
-    → grown d (placeBehind ts) w ≡ longer d (ts ++ t ∷ []) p
+    → grown d (sectionsEnd ts) w ≡ longer d (ts ++ t ∷ []) p
 sub-grown d ts t p w b e s l m =
     let ss : List Section = ts ++ t ∷ [] in
     let i : ℕ = idOf d in
     let ps : List Part = partsOf ss in
-    let o : ℕ = placeBehind ts in
+    let o : ℕ = sectionsEnd ts in
     let r = reading-sound false d ss b e in
     let g = all-split (GoodSection false (external i)) ts (t ∷ []) (r .good .each) .1 .0 in
     let x = any-draft d ss b e in
@@ -188,7 +188,7 @@ same-last d w p ts t b e s l m =
     let x : Bool = external (idOf d) in
     let r = reading-sound false d ss b e in
     let gs = all-split (GoodSection false x) ts (t ∷ []) (r .good .each) in
-    let o : lastPlace 0 8 ss ≡ placeBehind ts = last-behind 0 [] ts t (grouped false x ts (gs .0)) in
+    let o : lastPlace 0 8 ss ≡ sectionsEnd ts = last-behind 0 [] ts t (grouped false x ts (gs .0)) in
     let j = sub-joins-last false x ts t p (gs .1 .0) (flat-joins false x ss (r .good .each) 0) s in
     let there = stands-at d ts t [] b e .id-there in
     subst (λ (q : ℕ). need (joins 0 (partsOf ss ++ p ∷ [])) (fault 25 (stated d) 0)
@@ -196,9 +196,9 @@ same-last d w p ts t b e s l m =
     (andThen (reading false (longer d ss p)) (λ us. found (longer d ss p))))
     ≡ need (eqb (idOf (drop q d)) (sectionId (p .kind))) (fault 25 (stated d) 0) (appended d q w))
     (sym o)
-    (same-need (joins 0 (partsOf ss ++ p ∷ [])) (eqb (idOf (drop (placeBehind ts) d)) (sectionId (p .kind))) (fault 25 (stated d) 0) _ _
+    (same-need (joins 0 (partsOf ss ++ p ∷ [])) (eqb (idOf (drop (sectionsEnd ts) d)) (sectionId (p .kind))) (fault 25 (stated d) 0) _ _
     (j ∙ ap (λ (i : ℕ). eqb i (sectionId (p .kind))) (sym there))
-    (λ q. same-appended d w (longer d ss p) (placeBehind ts) (size p) l (sub-grown d ts t p w b e s l m)))
+    (λ q. same-appended d w (longer d ss p) (sectionsEnd ts) (size p) l (sub-grown d ts t p w b e s l m)))
 
 -- A list is empty or has a last element.
 last-of : (ss : List Section) → (ss ≡ []) ⊎ ((ts : List Section) × ((t : Section) × (ss ≡ ts ++ t ∷ [])))

@@ -26,7 +26,7 @@ use Rattle.drafts.specs.Adding.{grown, Reads}
 use Rattle.drafts.specs.Tiling.{TiledTo, Tiled}
 use Rattle.drafts.proofs.Tiling.{States, laid, passed, passed-then, cut-at}
 use Rattle.drafts.proofs.Sections.{parts-join}
-use Rattle.drafts.proofs.Cutting.{sectionBytes, sections-laid, draft-laid}
+use Rattle.drafts.proofs.LaidSections.{sectionBytes, sections-laid, draft-laid}
 use Rattle.drafts.proofs.Longer.{restate-long, grown-long}
 use Rattle.drafts.proofs.Restating.{restate-behind, restate-id, restate-stated, restate-bytes, id-taken}
 use Rattle.drafts.proofs.Additions.{restate-twice}

@@ -1,7 +1,7 @@
 pub mod Sections
 pub mod Tiling
 pub mod Stepping
-pub mod Cutting
+pub mod LaidSections
 pub mod Restating
 pub mod Whole
 pub mod Fronts

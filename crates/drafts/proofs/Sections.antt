@@ -21,7 +21,7 @@ use Rattle.format.proofs.Complete.{part-stated}
 use Rattle.format.proofs.Flat.{grouped}
 use Rattle.format.proofs.Accepted.{reading-sound}
 use Rattle.format.proofs.Writing.{draft-header}
-use Rattle.format.proofs.Changes.{placeBehind}
+use Rattle.format.proofs.Changes.{sectionsEnd}
 use Rattle.format.proofs.Additions.{any-draft}
 
 -- ---- the bytes of sections in a row
@@ -59,7 +59,7 @@ section-long t g =
 -- ---- places
 
 -- The place behind one section more.
-pub place-more : (ts : List Section) (t : Section) → Grouped t → placeBehind (ts ++ t ∷ []) ≡ placeBehind ts + span (t .head) (t .subs)
+pub place-more : (ts : List Section) (t : Section) → Grouped t → sectionsEnd (ts ++ t ∷ []) ≡ sectionsEnd ts + span (t .head) (t .subs)
 place-more ts t g =
     let a = ap length (sections-cut ts (t ∷ []) (g, tt)) in
     let b = length-append (writeParts (partsOf ts)) (writeParts (partsOf (t ∷ []))) in
@@ -81,9 +81,9 @@ id-framed false i g t l fs z e h = omega arith
 
 -- Behind the sections ts stands the section t: what the bytes there state is its length and its id.
 pub record StandsAt (d : List ℕ) (ts : List Section) (t : Section) : Type 0 where
-  pub length-there : stated (drop (placeBehind ts) d) ≡ span (t .head) (t .subs)
-  pub id-there : idOf (drop (placeBehind ts) d) ≡ sectionId (t .head .kind)
-  pub ends : placeBehind ts + span (t .head) (t .subs) ≤ stated d
+  pub length-there : stated (drop (sectionsEnd ts) d) ≡ span (t .head) (t .subs)
+  pub id-there : idOf (drop (sectionsEnd ts) d) ≡ sectionId (t .head .kind)
+  pub ends : sectionsEnd ts + span (t .head) (t .subs) ≤ stated d
   pub four : 4 ≤ span (t .head) (t .subs)
 
 pub stands-at : (d : List ℕ) (ts : List Section) (t : Section) (us : List Section) → Bytes d → reading false d ≡ found (ts ++ t ∷ us)
@@ -105,16 +105,16 @@ stands-at d ts t us b read =
     let H : List ℕ = write (8 + length (writeParts ps)) header ((i ∷ []) ∷ []) in
     let parts : writeParts ps ≡ A ++ ((S ++ B) ++ C) =
     sections-cut ts (t ∷ us) gs ∙ ap (λ (y : List ℕ). A ++ y) (section-then t us (gs .1)) in
-    let place : length (H ++ A) ≡ placeBehind ts = omega arith in
+    let place : length (H ++ A) ≡ sectionsEnd ts = omega arith in
     let form : d ≡ (H ++ A) ++ (((S ++ B) ++ C) ++ w .rest) =
     w .form
     ∙ ap (λ (y : List ℕ). (H ++ y) ++ w .rest) parts
     ∙ ap (λ (y : List ℕ). y ++ w .rest) (sym (append-assoc H A ((S ++ B) ++ C)))
     ∙ append-assoc (H ++ A) ((S ++ B) ++ C) (w .rest) in
     let Z : List ℕ = B ++ (C ++ w .rest) in
-    let there : drop (placeBehind ts) d ≡ S ++ Z =
-    ap (drop (placeBehind ts)) form
-    ∙ drop-at (H ++ A) (((S ++ B) ++ C) ++ w .rest) (placeBehind ts) place
+    let there : drop (sectionsEnd ts) d ≡ S ++ Z =
+    ap (drop (sectionsEnd ts)) form
+    ∙ drop-at (H ++ A) (((S ++ B) ++ C) ++ w .rest) (sectionsEnd ts) place
     ∙ append-assoc (S ++ B) C (w .rest)
     ∙ append-assoc S B (C ++ w .rest) in
     let st = draft-header i ps d w .1 in
@@ -126,9 +126,9 @@ stands-at d ts t us b read =
     let sp = span-section (t .head) (t .subs) (good .head) in
     let pos = size-pos (t .head) in
     let small = w .small in
-    let ends : placeBehind ts + n ≤ stated d = omega arith in
+    let ends : sectionsEnd ts + n ≤ stated d = omega arith in
     record {
-      length-there = part-stated (t .head) n (drop (placeBehind ts) d) Z (omega arith) (good .part .fit) there;
+      length-there = part-stated (t .head) n (drop (sectionsEnd ts) d) Z (omega arith) (good .part .fit) there;
       id-there =
           ap idOf there
           ∙ (let q = id-small k in
@@ -138,7 +138,7 @@ stands-at d ts t us b read =
     }
 
 -- The sections end where the draft does.
-pub sections-end : (d : List ℕ) (ss : List Section) → Bytes d → reading false d ≡ found ss → placeBehind ss ≡ stated d
+pub sections-end : (d : List ℕ) (ss : List Section) → Bytes d → reading false d ≡ found ss → sectionsEnd ss ≡ stated d
 sections-end d ss b read =
     let w = any-draft d ss b read in
     sym (written-length (idOf d) (partsOf ss)) ∙ sym (draft-header (idOf d) (partsOf ss) d w .1)

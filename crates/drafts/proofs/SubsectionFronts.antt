@@ -23,7 +23,7 @@ use Rattle.format.proofs.PartForm.{part-read}
 use Rattle.format.proofs.Tests.{Hold}
 use Rattle.format.proofs.Grouping.{Subs, all-split, all-map, parts-then-section, span-section, subs-long, parts-last}
 use Rattle.format.proofs.Sound.{GoodPart, GoodSub, GoodSection, subs-of, fixed-made}
-use Rattle.format.proofs.Complete.{or-else}
+use Rattle.format.proofs.Finding.{or-else}
 use Rattle.format.proofs.Flat.{grouped}
 use Rattle.format.proofs.Changes.{restate, relength}
 use Rattle.contents.proofs.Headers.{lengths}
@@ -31,7 +31,7 @@ use Rattle.drafts.specs.Adding.{grown, Reads, Standing, holdsSubsections
 use Rattle.drafts.specs.Tiling.{TiledTo, Tiled, LastAt}
 use Rattle.drafts.proofs.Tiling.{States, laid, passed, passed-then, cut-at, only-one, stated-front}
 use Rattle.drafts.proofs.Sections.{id-framed, id-small}
-use Rattle.drafts.proofs.Cutting.{sectionBytes, subBytes, sections-laid, subs-laid, subs-state}
+use Rattle.drafts.proofs.LaidSections.{sectionBytes, subBytes, sections-laid, subs-laid, subs-state}
 use Rattle.drafts.proofs.Longer.{restate-long, restate-front, grown-long}
 use Rattle.drafts.proofs.Restating.{restate-behind, restate-id, restate-stated, restate-back, id-front, id-taken}
 use Rattle.drafts.proofs.Fronts.{front-reads, LongerRead, longer-read, grown-bytes}

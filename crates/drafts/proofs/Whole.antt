@@ -19,7 +19,7 @@ use Rattle.drafts.specs.Adding.{Reads, Standing}
 use Rattle.drafts.specs.Tiling.{Tiled, LastOf, LastSection}
 use Rattle.drafts.specs.declared.last.Last.{Last}
 use Rattle.drafts.specs.declared.last.Last.the-variants.{At, Empty, Broken}
-use Rattle.drafts.proofs.Cutting.{reads-tiled}
+use Rattle.drafts.proofs.LaidSections.{reads-tiled}
 
 -- A header with a number: the draft does not read.
 pub header-unread : {h : ℕ} (d : List ℕ) → h ≡ firstRefusal (headerChecks false d) → (h ≡ 0 → ⊥) → Reads d → ⊥

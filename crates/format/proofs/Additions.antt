@@ -23,7 +23,7 @@ use Rattle.format.proofs.Complete.{part-stated}
 use Rattle.format.proofs.Accepted.{reading-sound, good-choice, good-lawful}
 use Rattle.format.proofs.Writing.{Draft, draft-of, draft-front, draft-header}
 use Rattle.format.proofs.Changes.{section-added, sub-added}
-use Rattle.format.specs.Claims.{restate, placeBehind}
+use Rattle.format.specs.Claims.{restate, sectionsEnd}
 
 -- Any bytes that read as a draft are the draft of the parts found.
 pub any-draft : (d : List ℕ) (ss : List Section) → Bytes d → reading false d ≡ found ss → Draft (idOf d) (partsOf ss) d
@@ -83,7 +83,7 @@ joined p (s ∷ ss) f j = last-of s ss
 -- The last section of a draft stands behind the others, and states its length there.
 last-stated : (i : ℕ) (ts : List Section) (t : Section) (d : List ℕ) → Draft i (partsOf (ts ++ t ∷ [])) d
     → isSubsection (t .head .kind) ≡ false → fits [] (layout (t .head .kind)) (t .head .fields) ≡ true
-    → stated (drop (placeBehind ts) d) ≡ span (t .head) (t .subs)
+    → stated (drop (sectionsEnd ts) d) ≡ span (t .head) (t .subs)
 last-stated i ts t d w f fit =
     let ps : List Part = partsOf (ts ++ t ∷ []) in
     let A : List ℕ = writeParts (partsOf ts) in
@@ -96,15 +96,15 @@ last-stated i ts t d w f fit =
     let lw = written-length i ps in
     let small = w .small in
     let sp = span-le (t .head) (t .subs) in
-    let place : length (H ++ A) ≡ placeBehind ts = omega arith in
+    let place : length (H ++ A) ≡ sectionsEnd ts = omega arith in
     let form : d ≡ (H ++ A) ++ (B ++ w .rest) =
     w .form
     ∙ ap (λ (y : List ℕ). (H ++ y) ++ w .rest) parts
     ∙ ap (λ (y : List ℕ). y ++ w .rest) (sym (append-assoc H A B))
     ∙ append-assoc (H ++ A) B (w .rest) in
-    let rest : drop (placeBehind ts) d ≡ S ++ (writeParts (t .subs) ++ w .rest) =
-    ap (drop (placeBehind ts)) form ∙ drop-at (H ++ A) (B ++ w .rest) (placeBehind ts) place ∙ append-assoc S (writeParts (t .subs)) (w .rest) in
-    part-stated (t .head) (span (t .head) (t .subs)) (drop (placeBehind ts) d) (writeParts (t .subs) ++ w .rest) (omega arith) fit rest
+    let rest : drop (sectionsEnd ts) d ≡ S ++ (writeParts (t .subs) ++ w .rest) =
+    ap (drop (sectionsEnd ts)) form ∙ drop-at (H ++ A) (B ++ w .rest) (sectionsEnd ts) place ∙ append-assoc S (writeParts (t .subs)) (w .rest) in
+    part-stated (t .head) (span (t .head) (t .subs)) (drop (sectionsEnd ts) d) (writeParts (t .subs) ++ w .rest) (omega arith) fit rest
 
 -- A subsection added changes the header's length and that of the last section, and puts its bytes behind the draft's.
 pub sub-changes : (d : List ℕ) (p : Part) (bs : List ℕ) → Bytes d → isSubsection (p .kind) ≡ true
@@ -113,7 +113,7 @@ pub sub-changes : (d : List ℕ) (p : Part) (bs : List ℕ) → Bytes d → isSu
     × (t : Section)
     × (reading false d ≡ found (ts ++ t ∷ []))
     × (bs
-    ≡ restate (placeBehind ts) (stated (drop (placeBehind ts) d) + size p) (restate 0 (stated d + size p) (take (stated d) d))
+    ≡ restate (sectionsEnd ts) (stated (drop (sectionsEnd ts) d) + size p) (restate 0 (stated d + size p) (take (stated d) d))
     ++ write (size p) (layout (p .kind)) (p .fields))
 sub-changes d p bs b f e =
     let a = addition-passed d p bs e in
@@ -135,6 +135,6 @@ sub-changes d p bs b f e =
       read,
       sym form
           ∙ sub-added i ts t p (g .head) (subs-of (external i) (t .head .kind) (t .subs) (g .subs)) f
-          ∙ ap₂ (λ (n : ℕ) (y : List ℕ). restate (placeBehind ts) (span (t .head) (t .subs) + size p) (restate 0 (n + size p) y) ++ write (size p) (layout (p .kind)) (p .fields)) (sym st) (sym front)
-          ∙ ap (λ (n : ℕ). restate (placeBehind ts) (n + size p) (restate 0 (stated d + size p) (take (stated d) d)) ++ write (size p) (layout (p .kind)) (p .fields)) (sym last),
+          ∙ ap₂ (λ (n : ℕ) (y : List ℕ). restate (sectionsEnd ts) (span (t .head) (t .subs) + size p) (restate 0 (n + size p) y) ++ write (size p) (layout (p .kind)) (p .fields)) (sym st) (sym front)
+          ∙ ap (λ (n : ℕ). restate (sectionsEnd ts) (n + size p) (restate 0 (stated d + size p) (take (stated d) d)) ++ write (size p) (layout (p .kind)) (p .fields)) (sym last),
     )

@@ -15,7 +15,7 @@ use Rattle.format.proofs.Unique.{size-any, written-length}
 use Rattle.format.proofs.PartForm.{plain, body-plain}
 use Rattle.format.proofs.Grouping.{Subs, parts-then-section, span-sub, span-section, subs-then-parts, subs-long, parts-last, all-join}
 use Rattle.format.proofs.Beginnings.{written-more}
-pub use Rattle.format.specs.Claims.{restate, placeBehind}
+pub use Rattle.format.specs.Claims.{restate, sectionsEnd}
 
 -- A byte set behind a front.
 set-behind : (a b : List ℕ) (j v : ℕ) → set (a ++ b) (length a + j) v ≡ a ++ set b j v
@@ -94,7 +94,7 @@ sub-bytes s p f g e =
 pub sub-added : (i : ℕ) (ss : List Section) (s : Section) (p : Part) → isSubsection (s .head .kind) ≡ false → Subs (s .subs)
     → isSubsection (p .kind) ≡ true
     → written i (partsOf (ss ++ s ∷ []) ++ p ∷ [])
-    ≡ restate (placeBehind ss) (span (s .head) (s .subs) + size p)
+    ≡ restate (sectionsEnd ss) (span (s .head) (s .subs) + size p)
     (restate 0 (length (written i (partsOf (ss ++ s ∷ []))) + size p) (written i (partsOf (ss ++ s ∷ []))))
     ++ write (size p) (layout (p .kind)) (p .fields)
 sub-added i ss s p f g e =
@@ -112,8 +112,8 @@ sub-added i ss s p f g e =
     let new : writeParts (P ++ p ∷ []) ≡ A ++ (restate 0 m B ++ w) =
     ap writeParts flat ∙ parts-then-section (partsOf ss) (s .head) (s .subs ++ p ∷ []) f
     ∙ ap (λ (y : List ℕ). A ++ y) (sub-bytes s p f g e) in
-    let place : length (H ++ A) ≡ placeBehind ss = omega arith in
-    let grown : restate (placeBehind ss) m (H ++ writeParts P) ≡ (H ++ A) ++ restate 0 m B =
+    let place : length (H ++ A) ≡ sectionsEnd ss = omega arith in
+    let grown : restate (sectionsEnd ss) m (H ++ writeParts P) ≡ (H ++ A) ++ restate 0 m B =
     ap₂ (λ (q : ℕ) (y : List ℕ). restate q m y) (sym place) (ap (λ (y : List ℕ). H ++ y) old ∙ sym (append-assoc H A B))
     ∙ restate-behind (H ++ A) B m in
     ap₂ (λ (q : ℕ) (y : List ℕ). write q header ((i ∷ []) ∷ []) ++ y) ln new

@@ -17,7 +17,7 @@ use Rattle.format.specs.Reading.{Fault, fault, refused, found, stated, r
 use Rattle.format.specs.Table.{Placed, placed, rows, columns, tableOf, tableAnswer, tableAfter}
 use Rattle.format.specs.Views.{view, viewAnswer, stepAt}
 use Rattle.format.specs.Writer.{draftAfter, start, addition, finish}
-use Rattle.format.specs.Claims.{IsRow, Tiles, subsOf, ruleRows, slotsOf, viewsFrom, walk, walkPlace, additions, restate, placeBehind}
+use Rattle.format.specs.Claims.{IsRow, Tiles, subsOf, ruleRows, slotsOf, viewsFrom, walk, walkPlace, additions, restate, sectionsEnd}
 use Rattle.format.specs.Examples.{tokenT, Holds, starred}
 use Rattle.format.specs.declared.Answer.the-variants.{Accepted, Refused}
 use Rattle.format.specs.declared.Step.the-variants.{End, Stopped}
@@ -110,8 +110,8 @@ no-longer-legal-token t r a b = Runs.prefix-free t r a b
 
 -- "Any two finite lists of legal tokens, the empty list among them, give the same bytes when laid end to end exactly when
 -- they are the same list, the same tokens in the same order."
-pub one-cutting : (ts us : List (List ℕ)) → All Legal ts → All Legal us → (joined ts ≡ joined us) ↔ (ts ≡ us)
-one-cutting ts us a b = Runs.one-cutting ts us a b
+pub same-bytes-same-list : (ts us : List (List ℕ)) → All Legal ts → All Legal us → (joined ts ≡ joined us) ↔ (ts ≡ us)
+same-bytes-same-list ts us a b = Runs.same-bytes-same-list ts us a b
 
 -- "So a run joined from legal tokens has one cutting and one count of rules", the sum over its tokens.
 pub one-count-of-rules : (ts us : List (List ℕ)) (a : All Legal ts) (b : All Legal us) → joined ts ≡ joined us
@@ -254,7 +254,7 @@ pub added-subsection-changes : (d : List ℕ) (p : Part) (bs : List ℕ) → Byt
     × (t : Section)
     × (reading false d ≡ found (ts ++ t ∷ []))
     × (bs
-    ≡ restate (placeBehind ts) (stated (drop (placeBehind ts) d) + size p) (restate 0 (stated d + size p) (take (stated d) d))
+    ≡ restate (sectionsEnd ts) (stated (drop (sectionsEnd ts) d) + size p) (restate 0 (stated d + size p) (take (stated d) d))
     ++ write (size p) (layout (p .kind)) (p .fields))
 added-subsection-changes d p bs b f e = Additions.sub-changes d p bs b f e
 

@@ -60,8 +60,8 @@ cutting (t ∷ ts) (u ∷ us) ls ms e =
     ap₂ (λ x y. x ∷ y) (c .0) (cutting ts us (ls .1) (ms .1) (c .1))
 
 -- Two lists of legal tokens join to the same bytes exactly where they are the same list.
-pub one-cutting : (ts us : List (List ℕ)) → All Legal ts → All Legal us → (joined ts ≡ joined us) ↔ (ts ≡ us)
-one-cutting ts us ls ms = (cutting ts us ls ms, λ e. ap joined e)
+pub same-bytes-same-list : (ts us : List (List ℕ)) → All Legal ts → All Legal us → (joined ts ≡ joined us) ↔ (ts ≡ us)
+same-bytes-same-list ts us ls ms = (cutting ts us ls ms, λ e. ap joined e)
 
 -- The count of rules does not turn on how the tokens are shown to be legal.
 same-count : (ts : List (List ℕ)) (ls ms : All Legal ts) → rulesOfAll ts ls ≡ rulesOfAll ts ms

@@ -11,7 +11,7 @@ use Rattle.format.specs.Parts.{Part, size}
 use Rattle.format.specs.Legal.{Legal}
 use Rattle.format.specs.Reading.{Fault, refused, reading}
 use Rattle.format.specs.Table.{Placed, placed, rows}
-use Rattle.format.specs.Views.{stepIn, stepAt, placeBehind}
+use Rattle.format.specs.Views.{stepIn, stepAt, placeAfter}
 use Rattle.format.specs.declared.Row.{Row}
 use Rattle.format.specs.declared.Step.{Step}
 use Rattle.format.specs.declared.Step.the-variants.{Record, End, Stopped}
@@ -74,14 +74,14 @@ Steps bs xs = (k : ℕ) (x : Placed) → getElem? xs k ≡ some x
 -- A turn of the walk that gives a record.
 walk-record : (d : ℕ) (bs : List ℕ) (at : ℕ) (r : Row) (next : ℕ) → stepAt bs at ≡ Record r next
     → (walk (suc d) bs at ≡ r ∷ walk d bs next) × (walkPlace (suc d) bs at ≡ walkPlace d bs next)
-walk-record d bs at r next e = (rw (e, walk), ap (λ (s : Step). walkPlace d bs (placeBehind at s)) e)
+walk-record d bs at r next e = (rw (e, walk), ap (λ (s : Step). walkPlace d bs (placeAfter at s)) e)
 
 -- At the end the walk stays.
 walk-end : (d : ℕ) (bs : List ℕ) → stepAt bs (length bs) ≡ End
     → (walk d bs (length bs) ≡ []) × (walkPlace d bs (length bs) ≡ length bs)
 walk-end zero bs e = (refl, refl)
 walk-end (suc d) bs e =
-    (rw (e, walk), ap (λ (s : Step). walkPlace d bs (placeBehind (length bs) s)) e ∙ walk-end d bs e .1)
+    (rw (e, walk), ap (λ (s : Step). walkPlace d bs (placeAfter (length bs) s)) e ∙ walk-end d bs e .1)
 
 -- The walk over rows that lie one behind another up to the token's end gives them, and ends there.
 walk-rows : (bs : List ℕ) (d at : ℕ) (xs : List Placed) → Tiles at xs (length bs) → Steps bs xs

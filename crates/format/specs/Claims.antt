@@ -12,8 +12,7 @@ use Rattle.format.specs.Rules.{Section, frontSubs}
 use Rattle.format.specs.Legal.{Legal}
 use Rattle.format.specs.Reading.{Outcome, found, andThen, partsOf}
 use Rattle.format.specs.Table.{Placed, placed}
-use Rattle.format.specs.Views.{view, stepAt}
-use Rattle.format.specs.Views as Views
+use Rattle.format.specs.Views.{view, stepAt, placeAfter}
 use Rattle.format.specs.Writer.{draftAfter, addition}
 use Rattle.format.specs.declared.Row.{Row}
 use Rattle.format.specs.declared.Step.the-variants.{Record, End, Stopped}
@@ -59,7 +58,7 @@ walk (suc d) bs at = elim (stepAt bs at) [ Record r next ↦ r ∷ walk d bs nex
 -- The place that d steps lead to.
 abbrev pub walkPlace : ℕ → List ℕ → ℕ → ℕ
 walkPlace zero bs at = at
-walkPlace (suc d) bs at = walkPlace d bs (Views.placeBehind at (stepAt bs at))
+walkPlace (suc d) bs at = walkPlace d bs (placeAfter at (stepAt bs at))
 
 -- ---- the writer
 
@@ -73,5 +72,5 @@ abbrev pub restate : ℕ → ℕ → List ℕ → List ℕ
 restate at n bs = set (set bs (at + 2) (n / 256 % 256)) (at + 3) (n % 256)
 
 -- The place of the section behind these.
-abbrev pub placeBehind : List Section → ℕ
-placeBehind ss = 8 + length (writeParts (partsOf ss))
+abbrev pub sectionsEnd : List Section → ℕ
+sectionsEnd ss = 8 + length (writeParts (partsOf ss))

@@ -79,7 +79,7 @@ stepAt bs at =
     ]
 
 -- the place that the reader of held bytes goes to behind a step: the next row's, and at the end or a refusal its own
-abbrev pub placeBehind : ℕ → Step → ℕ
-placeBehind at (Record r next) = next
-placeBehind at End = at
-placeBehind at (Stopped n p) = at
+abbrev pub placeAfter : ℕ → Step → ℕ
+placeAfter at (Record r next) = next
+placeAfter at End = at
+placeAfter at (Stopped n p) = at

@@ -5,7 +5,6 @@ use format::Answer;
 use format::Row;
 use libc::STDIN_FILENO;
 use libc::STDOUT_FILENO;
-use listing::LineAnswer;
 use listing::first_line;
 use listing::row_line;
 use reading::read_table;
@@ -14,20 +13,22 @@ use reading::read_table;
 fn write_first(id: u8, length: u32, answer: Answer) {
     let mut line = [0u8; 96];
     let a = first_line(&mut line, id, length, answer);
-    let LineAnswer::Length(n) = a else {
+    let Answer::Accepted(n) = a else {
         return;
     };
-    io::write_all(STDOUT_FILENO, &line[..n]);
+    let end = n as usize;
+    io::write_all(STDOUT_FILENO, &line[..end]);
 }
 
 // Writes the line of a row.
 fn write_row(place: u32, row: Row) {
     let mut line = [0u8; 96];
     let a = row_line(&mut line, place, row);
-    let LineAnswer::Length(n) = a else {
+    let Answer::Accepted(n) = a else {
         return;
     };
-    io::write_all(STDOUT_FILENO, &line[..n]);
+    let end = n as usize;
+    io::write_all(STDOUT_FILENO, &line[..end]);
 }
 
 // Writes the line of row n of a table.

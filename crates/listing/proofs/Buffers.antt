@@ -9,7 +9,7 @@ use native.Mathlib.Omega.{arith}
 use lib.Dec.{leb}
 use lib.ListN.{length, drop}
 use borrow.Author.Tests.{le-leb, lt-leb}
-use Rattle.listing.specs.declared.LineAnswer.the-variants.{Length, TooSmall}
+use Rattle.format.specs.declared.Answer.the-variants.{Accepted, Refused}
 use Rattle.format.proofs.Grouping.{is-true, is-false}
 use Rattle.storing.specs.Storing.{Stored}
 use Rattle.storing.proofs.Stores.{sets-front}
@@ -18,14 +18,14 @@ use Rattle.texts.proofs.Digits.{below-or-not}
 
 -- the buffer has no room for the line, or it has
 pub no-room : (line old : List ℕ) → length old < length line
-    → (lineAnswer line old ≡ TooSmall) × (lineIn line old ≡ old)
+    → (lineAnswer line old ≡ Refused 23 0) × (lineIn line old ≡ old)
 unfolding lineAnswer lineIn
 no-room line old h =
     let e : leb (length line) (length old) ≡ false = lt-leb (length line) (length old) h in
     (is-false _ _ _ e, is-false _ _ _ e)
 
 pub room : (line old : List ℕ) → length line ≤ length old
-    → (lineAnswer line old ≡ Length (length line)) × (lineIn line old ≡ line ++ drop (length line) old)
+    → (lineAnswer line old ≡ Accepted (length line)) × (lineIn line old ≡ line ++ drop (length line) old)
 unfolding lineAnswer lineIn
 room line old h =
     let e : leb (length line) (length old) ≡ true = le-leb (length line) (length old) h in
@@ -33,22 +33,22 @@ room line old h =
 
 -- a line that was stored where there is room for it
 pub line-placed : (line old new : List ℕ) (n : ℕ) → length line ≤ length old → Stored old 0 line new n
-    → (Length n ≡ lineAnswer line old) × (new ≡ lineIn line old)
+    → (Accepted n ≡ lineAnswer line old) × (new ≡ lineIn line old)
 line-placed line old new n h s =
     let r = room line old h in
-    (ap Length (s .place ∙ zero-add (length line)) ∙ sym (r .0), s .bytes ∙ sets-front old line h ∙ sym (r .1))
+    (ap Accepted (s .place ∙ zero-add (length line)) ∙ sym (r .0), s .bytes ∙ sets-front old line h ∙ sym (r .1))
 
 -- an answered length is the line's, and it is at most the buffer's
-pub answered : (line old : List ℕ) (n : ℕ) → lineAnswer line old ≡ Length n
+pub answered : (line old : List ℕ) (n : ℕ) → lineAnswer line old ≡ Accepted n
     → (n ≡ length line) × (n ≤ length old)
 answered line old n e =
     ⊎-elim
     (λ (h : length old < length line).
-    let f : lineAnswer line old ≡ TooSmall = no-room line old h .0 in
+    let f : lineAnswer line old ≡ Refused 23 0 = no-room line old h .0 in
     let z : _≡_ {A = ℕ} 0 1 = cc in
     absurd (omega arith))
     (λ (h : length line ≤ length old).
-    let f : lineAnswer line old ≡ Length (length line) = room line old h .0 in
+    let f : lineAnswer line old ≡ Accepted (length line) = room line old h .0 in
     let z : n ≡ length line = cc in
     (z, omega arith))
     (below-or-not (length old) (length line))

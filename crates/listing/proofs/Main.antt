@@ -7,7 +7,6 @@ use Rattle.format.specs.Lines.{idText, firstLine, rowLine}
 use Rattle.format.specs.declared.Answer.{Answer}
 use Rattle.format.specs.declared.Answer.the-variants.{Accepted, Refused}
 use Rattle.format.specs.declared.Row.{Row}
-use Rattle.listing.specs.declared.LineAnswer.the-variants.{Length, TooSmall}
 use Rattle.listing.specs.Buffers.{lineAnswer, lineIn}
 use Rattle.listing.proofs.Apart.{rows-apart, answers-apart, accepted-apart}
 use Rattle.listing.proofs.Buffers.{room, no-room, answered}
@@ -42,15 +41,15 @@ refused-line-fits = refused-length
 -- Where the buffer has room for the line, the call answers its length; the line stands at the start, and the bytes behind
 -- it are those that were there.
 pub line-given : (line old : List ℕ) → length line ≤ length old
-    → (lineAnswer line old ≡ Length (length line)) × (lineIn line old ≡ line ++ drop (length line) old)
+    → (lineAnswer line old ≡ Accepted (length line)) × (lineIn line old ≡ line ++ drop (length line) old)
 line-given = room
 
 -- Where it has no room, the call says so, and every byte is the one that was there.
 pub line-refused : (line old : List ℕ) → length old < length line
-    → (lineAnswer line old ≡ TooSmall) × (lineIn line old ≡ old)
+    → (lineAnswer line old ≡ Refused 23 0) × (lineIn line old ≡ old)
 line-refused = no-room
 
 -- A length is answered only where it is the line's and the buffer has room for it.
-pub length-answered : (line old : List ℕ) (n : ℕ) → lineAnswer line old ≡ Length n
+pub length-answered : (line old : List ℕ) (n : ℕ) → lineAnswer line old ≡ Accepted n
     → (n ≡ length line) × (n ≤ length old)
 length-answered = answered

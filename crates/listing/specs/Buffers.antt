@@ -4,12 +4,12 @@ use mathlib.Core.List.{List, _++_}
 use Prim.Native.Nat.{ℕ}
 use lib.Dec.{leb}
 use lib.ListN.{length, drop}
-use Rattle.listing.specs.declared.LineAnswer.{LineAnswer}
-use Rattle.listing.specs.declared.LineAnswer.the-variants.{Length, TooSmall}
+use Rattle.format.specs.declared.Answer.{Answer}
+use Rattle.format.specs.declared.Answer.the-variants.{Accepted, Refused}
 
--- the line's length, or that the buffer, which held the bytes old, is too small for it
-unfoldable pub lineAnswer : List ℕ → List ℕ → LineAnswer
-lineAnswer line old = elim (leb (length line) (length old)) [ true ↦ Length (length line) | false ↦ TooSmall ]
+-- 0 with the line's length, or 23 where the buffer, which held the bytes old, is too small for it
+unfoldable pub lineAnswer : List ℕ → List ℕ → Answer
+lineAnswer line old = elim (leb (length line) (length old)) [ true ↦ Accepted (length line) | false ↦ Refused 23 0 ]
 
 -- the line and, behind it, the bytes that were there; all of the old bytes where the buffer is too small
 unfoldable pub lineIn : List ℕ → List ℕ → List ℕ

@@ -1,5 +1,5 @@
-// Public: the lines of the listing, each made by a call at the start of a lent buffer. A buffer that is too small for the
-// line is left as it is.
+// Public: the lines of the listing, each made by a call at the start of a lent buffer. A call answers 0 with the line's
+// length, or 23 where the buffer is too small for the line and is left as it is.
 ghost use mathlib.Core.Path.{_≡_};
 ghost use Prim.Native.Nat.{_≤_};
 ghost use lib.ListN.{length};
@@ -15,12 +15,6 @@ use texts::put_tag;
 
 // Enough bytes for any line.
 pub const LINE: usize = 96;
-
-// What a call answers: the length of the line, or that the buffer is too small for it.
-pub enum LineAnswer {
-    Length(usize),
-    TooSmall,
-}
 
 // The first line, stored from the start of `line` on. The result is its length.
 fn put_first(line: &mut [u8], id: u8, bytes: u32, answer: Answer) -> usize
@@ -61,28 +55,29 @@ fn put_row(line: &mut [u8], place: u32, row: Row) -> usize
 }
 
 // A line that is made already, at the start of a lent buffer.
-fn place_line(out: &mut [u8], line: &[u8]) -> LineAnswer
+fn place_line(out: &mut [u8], line: &[u8]) -> Answer
+    requires { ⌜ length (now line) ≤ 96 ⌝ }
     ensures answer { λ r. ⌜ r ≡ lineAnswer (now (line .entry)) (now (out .entry)) ⌝ }
     ensures buffer { λ _. ⌜ now (out .exit) ≡ lineIn (now (line .entry)) (now (out .entry)) ⌝ }
 {
     if out.len() < line.len() {
-        return LineAnswer::TooSmall;
+        return Answer::Refused(23, 0);
     }
-    LineAnswer::Length(put(out, 0, line))
+    Answer::Accepted(put(out, 0, line) as u32)
 }
 
 // The first line of a listing, from the token's id, its length and the reading's answer.
-pub fn first_line(out: &mut [u8], id: u8, length: u32, answer: Answer) -> LineAnswer
-    ensures answer { λ r. ⌜ r ≡ lineAnswer (firstLine id length answer) (now (out .entry)) ⌝ }
-    ensures buffer { λ _. ⌜ now (out .exit) ≡ lineIn (firstLine id length answer) (now (out .entry)) ⌝ }
+pub fn first_line(out: &mut [u8], id: u8, bytes: u32, answer: Answer) -> Answer
+    ensures answer { λ r. ⌜ r ≡ lineAnswer (firstLine id bytes answer) (now (out .entry)) ⌝ }
+    ensures buffer { λ _. ⌜ now (out .exit) ≡ lineIn (firstLine id bytes answer) (now (out .entry)) ⌝ }
 {
     let mut line = [0u8; LINE];
-    let n = put_first(&mut line, id, length, answer);
+    let n = put_first(&mut line, id, bytes, answer);
     place_line(out, &line[..n])
 }
 
 // The line of a row, from its place in the table and its numbers.
-pub fn row_line(out: &mut [u8], place: u32, row: Row) -> LineAnswer
+pub fn row_line(out: &mut [u8], place: u32, row: Row) -> Answer
     ensures answer { λ r. ⌜ r ≡ lineAnswer (rowLine place row) (now (out .entry)) ⌝ }
     ensures buffer { λ _. ⌜ now (out .exit) ≡ lineIn (rowLine place row) (now (out .entry)) ⌝ }
 {

@@ -6,7 +6,7 @@ ghost use Rattle.walker.specs.Walking.{stepBehind};
 use host_numbers::steps::give_row;
 use host_numbers::steps::give_step;
 use lookup::step;
-use walker::nth_row;
+use walker::nth_step;
 
 // The step of the walk at a place.
 #[no_mangle]
@@ -60,7 +60,7 @@ pub extern "C" fn tb_row(
     ensures next { λ _. ⌜ now (next .exit) ≡ nextOf (stepBehind (now (token .entry)) 8 row) ⌝ }
 {
     give_row(
-        nth_row(token, row),
+        nth_step(token, row),
         second,
         kind,
         offset,

@@ -10,27 +10,27 @@ use borrow.Author.Tests.{ltb-true, ltb-false}
 use types.Run.{OneOf}
 use mathlib.Core.Logic.{inl, inr}
 use denote.Enum.Declared.{tagOf}
-use Rattle.format.specs.Views.{stepAt, placeBehind}
+use Rattle.format.specs.Views.{stepAt, placeAfter}
 use Rattle.format.specs.declared.Step.{Step}
 use Rattle.format.specs.declared.Step.the-variants.{Record, End, Stopped}
 use Rattle.format.proofs.Step.{the-type}
 use Rattle.walker.specs.Walking.{stepBehind, goesOn}
 
 -- A step that is no record leads nowhere.
-pub stays : (at : ℕ) (s : Step) → OneOf (1 ∷ 2 ∷ []) (tagOf the-type s) → at ≡ placeBehind at s
+pub stays : (at : ℕ) (s : Step) → OneOf (1 ∷ 2 ∷ []) (tagOf the-type s) → at ≡ placeAfter at s
 stays at (Record r n) (inl e) = let z : _≡_ {A = ℕ} 0 1 = e in absurd (omega arith)
 stays at (Record r n) (inr e) = let z : _≡_ {A = ℕ} 0 2 = e in absurd (omega arith)
 stays at End k = refl
 stays at (Stopped n p) k = refl
 
 -- Where a step leads nowhere, all steps behind it are the same.
-out : (bs : List ℕ) (at n : ℕ) → at ≡ placeBehind at (stepAt bs at) → stepAt bs at ≡ stepBehind bs at n
+out : (bs : List ℕ) (at n : ℕ) → at ≡ placeAfter at (stepAt bs at) → stepAt bs at ≡ stepBehind bs at n
 unfolding stepBehind
 out bs at zero e = refl
 out bs at (suc n) e = out bs at n e ∙ ap (λ (p : ℕ). stepBehind bs p n) e
 
 -- One step is taken.
-pub more : (bs : List ℕ) (at n : ℕ) {p : ℕ} → 0 < n → p ≡ placeBehind at (stepAt bs at) → stepBehind bs p (n - 1) ≡ stepBehind bs at n
+pub more : (bs : List ℕ) (at n : ℕ) {p : ℕ} → 0 < n → p ≡ placeAfter at (stepAt bs at) → stepBehind bs p (n - 1) ≡ stepBehind bs at n
 unfolding stepBehind
 more bs at zero h e = absurd (omega arith)
 more bs at (suc n) h e = rw (sub-one, e)
@@ -69,5 +69,5 @@ some-left (Stopped m p) n e = absurd (let z : _≡_ {A = ℕ} 0 1 = cc in omega 
 pub reached : (bs : List ℕ) (at n : ℕ) (s : Step) → s ≡ stepAt bs at → goesOn s n ≡ false → s ≡ stepBehind bs at n
 unfolding goesOn
 reached bs at n (Record r m) e g = e ∙ none bs at n (let z = ltb-false 0 n g in omega (arith, z))
-reached bs at n End e g = e ∙ out bs at n (ap (placeBehind at) e)
-reached bs at n (Stopped m p) e g = e ∙ out bs at n (ap (placeBehind at) e)
+reached bs at n End e g = e ∙ out bs at n (ap (placeAfter at) e)
+reached bs at n (Stopped m p) e g = e ∙ out bs at n (ap (placeAfter at) e)

@@ -12,7 +12,7 @@ use Rattle.format.specs.Legal.{Legal}
 use Rattle.format.specs.Parts.{size}
 use Rattle.format.specs.Reading.{Fault, refused, reading}
 use Rattle.format.specs.Table.{Placed, placed}
-use Rattle.format.specs.Views.{stepAt, placeBehind}
+use Rattle.format.specs.Views.{stepAt, placeAfter}
 use Rattle.format.specs.declared.Step.{Step}
 use Rattle.format.specs.declared.Step.the-variants.{Record, End, Stopped}
 use Rattle.format.proofs.Walking.{walk-legal, first-place, step-next, step-at-row, step-at-end, step-refused}
@@ -26,12 +26,12 @@ use Rattle.format.specs.Claims.{IsRow, walkPlace}
 behind-at : (bs : List ℕ) (at n : ℕ) → stepBehind bs at n ≡ stepAt bs (walkPlace n bs at)
 unfolding stepBehind
 behind-at bs at zero = refl
-behind-at bs at (suc n) = behind-at bs (placeBehind at (stepAt bs at)) n
+behind-at bs at (suc n) = behind-at bs (placeAfter at (stepAt bs at)) n
 
 -- The last of n + 1 steps is the one behind the first n.
-place-last : (bs : List ℕ) (at n : ℕ) → walkPlace (suc n) bs at ≡ placeBehind (walkPlace n bs at) (stepAt bs (walkPlace n bs at))
+place-last : (bs : List ℕ) (at n : ℕ) → walkPlace (suc n) bs at ≡ placeAfter (walkPlace n bs at) (stepAt bs (walkPlace n bs at))
 place-last bs at zero = refl
-place-last bs at (suc n) = place-last bs (placeBehind at (stepAt bs at)) n
+place-last bs at (suc n) = place-last bs (placeAfter at (stepAt bs at)) n
 
 -- Before an element of a list comes another.
 one-before : (xs : List Placed) (k : ℕ) (y : Placed) → getElem? xs (suc k) ≡ some y → (x : Placed) × (getElem? xs k ≡ some x)
@@ -46,8 +46,8 @@ place-of-row bs l (suc k) y f =
     let b = one-before (placed 8 0 0 (l .parts)) k y f in
     let p = place-of-row bs l k (b .0) (b .1) in
     place-last bs 8 k
-    ∙ ap (λ (a : ℕ). placeBehind a (stepAt bs a)) p
-    ∙ ap (placeBehind (b .0 .row .offset)) (step-next bs l k (b .0) y (b .1) f)
+    ∙ ap (λ (a : ℕ). placeAfter a (stepAt bs a)) p
+    ∙ ap (placeAfter (b .0 .row .offset)) (step-next bs l k (b .0) y (b .1) f)
 
 -- ---- the steps behind one another
 
@@ -73,7 +73,7 @@ Followed token w s =
     ((w 0 .token ≡ token) × (w 0 .place ≡ 8))
     × ((k : ℕ)
     → (s k ≡ stepAt (now (w k .token)) (w k .place))
-    × ((w (suc k) .token ≡ w k .token) × (w (suc k) .place ≡ placeBehind (w k .place) (s k))))
+    × ((w (suc k) .token ≡ w k .token) × (w (suc k) .place ≡ placeAfter (w k .place) (s k))))
 
 -- The reader keeps the token, and its place is the one that the steps lead to.
 kept : (token : RefT (List ℕ)) (w : ℕ → Walker) (s : ℕ → Step) → Followed token w s → (k : ℕ)
@@ -84,9 +84,9 @@ kept token w s f (suc k) =
     let n = f .1 k in
     let e : s k ≡ stepAt (now token) (walkPlace k (now token) 8) =
     n .0 ∙ ap (λ (t : RefT (List ℕ)). stepAt (now t) (w k .place)) (i .0) ∙ ap (stepAt (now token)) (i .1) in
-    (n .1 .0 ∙ i .0, n .1 .1 ∙ ap (λ (a : ℕ). placeBehind a (s k)) (i .1) ∙ ap (placeBehind (walkPlace k (now token) 8)) e ∙ sym (place-last (now token) 8 k))
+    (n .1 .0 ∙ i .0, n .1 .1 ∙ ap (λ (a : ℕ). placeAfter a (s k)) (i .1) ∙ ap (placeAfter (walkPlace k (now token) 8)) e ∙ sym (place-last (now token) 8 k))
 
--- "The same records in the same order": the reader's step k is the walk's, which is what `nth_row` gives.
+-- "The same records in the same order": the reader's step k is the walk's, which is what `nth_step` gives.
 pub same-steps : (token : RefT (List ℕ)) (w : ℕ → Walker) (s : ℕ → Step) → Followed token w s → (k : ℕ)
     → s k ≡ stepBehind (now token) 8 k
 same-steps token w s f k =

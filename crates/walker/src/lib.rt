@@ -1,6 +1,6 @@
 // The reader that keeps hold of a token's bytes and its place in them. Any bytes may be walked.
 ghost use mathlib.Core.Path.{_≡_};
-ghost use Rattle.format.specs.Views.{stepAt, placeBehind};
+ghost use Rattle.format.specs.Views.{stepAt, placeAfter};
 ghost use Rattle.walker.specs.Walking.{stepBehind, goesOn};
 use format::Step;
 
@@ -10,8 +10,8 @@ pub struct Walker<'a> {
 }
 
 // The place that a step leads to: the next row's, and at the end or a refusal its own.
-pub fn place_behind(s: Step, place: usize) -> usize
-    ensures { λ r. ⌜ r ≡ placeBehind place s ⌝ }
+pub fn place_after(s: Step, place: usize) -> usize
+    ensures { λ r. ⌜ r ≡ placeAfter place s ⌝ }
 {
     let Step::Record(_, next) = s else {
         return place;
@@ -28,12 +28,12 @@ pub fn start<'a>(token: &'a [u8]) -> Walker<'a>
 
 // The step at the reader's place. On a record the reader moves to the next row's place, else it stays.
 pub fn next<'s, 'a>(w: &'s mut Walker<'a>) -> Step
-    ensures { λ s. ⌜ (s ≡ stepAt (now (now (w .entry) .token)) (now (w .entry) .place)) × ((now (w .exit) .token ≡ now (w .entry) .token) × (now (w .exit) .place ≡ placeBehind (now (w .entry) .place) s)) ⌝ }
+    ensures { λ s. ⌜ (s ≡ stepAt (now (now (w .entry) .token)) (now (w .entry) .place)) × ((now (w .exit) .token ≡ now (w .entry) .token) × (now (w .exit) .place ≡ placeAfter (now (w .entry) .place) s)) ⌝ }
 {
     let token = w.token;
     let place = w.place;
     let s = lookup::step(token, place);
-    w.place = place_behind(s, place);
+    w.place = place_after(s, place);
     s
 }
 
@@ -48,7 +48,7 @@ fn goes_on(s: Step, left: u32) -> bool
 }
 
 // The step behind n steps from the first row's place, by the reader: row n, or what stopped the walk before it.
-pub fn nth_row(token: &[u8], n: u32) -> Step
+pub fn nth_step(token: &[u8], n: u32) -> Step
     ensures { λ r. ⌜ r ≡ stepBehind (now (token .entry)) 8 n ⌝ }
 {
     let mut w = start(token);

@@ -7,43 +7,37 @@ use borrow.Author.Needs.{needs}
 use Rattle.list_token.proofs.write_first.Statement.{statement}
 use Rattle.list_token.proofs.write_first.Tie as tie
 
--- src/main.rt:14:24
 slice-aggregate-first-line : tie.Need-slice-aggregate-first-line
 slice-aggregate-first-line c = search needs
 
--- src/main.rt:14:9
 first-line-requires : tie.Need-first-line-requires
 first-line-requires c κs = search needs
 
--- src/main.rt:15:28
 enum-known-a : tie.Need-enum-known-a
 enum-known-a c = search needs
 
--- src/main.rt:16:9
 enum-told : tie.Need-enum-told
 enum-told c = search needs
 
--- src/main.rt:16:9
 returns : tie.Need-returns
 returns c = search needs
 
--- src/main.rt:18:34
+cast-end : tie.Need-cast-end
+cast-end c = search needs
+
 array-share-prefix-line : tie.Need-array-share-prefix-line
 array-share-prefix-line c =
     let f = length-answered _ _ _ (sym (c .before .before .before .before .first-line .ensures .0) ∙ c .before .a .given .1) in
     omega (arith, f .1, c .before .before .before .before .first-line .kept .0)
 
--- src/main.rt:18:34
 slice-aggregate-write-all : tie.Need-slice-aggregate-write-all
 slice-aggregate-write-all c =
     let f = length-answered _ _ _ (sym (c .before .before .before .before .before .first-line .ensures .0) ∙ c .before .before .a .given .1) in
     sym (length-take-le _ (c .before .before .before .before .before .first-line .last .0) (omega (arith, f .1, c .before .before .before .before .before .first-line .kept .0)))
 
--- src/main.rt:18:5
 write-all-requires : tie.Need-write-all-requires
 write-all-requires c κs = search needs
 
--- src/main.rt:12:1
 returns-2 : tie.Need-returns-2
 returns-2 c = search needs
 
@@ -56,6 +50,7 @@ write-first-spec =
     enum-known-a
     enum-told
     returns
+    cast-end
     array-share-prefix-line
     slice-aggregate-write-all
     write-all-requires

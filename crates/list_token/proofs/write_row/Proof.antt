@@ -7,43 +7,37 @@ use borrow.Author.Needs.{needs}
 use Rattle.list_token.proofs.write_row.Statement.{statement}
 use Rattle.list_token.proofs.write_row.Tie as tie
 
--- src/main.rt:24:22
 slice-aggregate-row-line : tie.Need-slice-aggregate-row-line
 slice-aggregate-row-line c = search needs
 
--- src/main.rt:24:9
 row-line-requires : tie.Need-row-line-requires
 row-line-requires c κs = search needs
 
--- src/main.rt:25:28
 enum-known-a : tie.Need-enum-known-a
 enum-known-a c = search needs
 
--- src/main.rt:26:9
 enum-told : tie.Need-enum-told
 enum-told c = search needs
 
--- src/main.rt:26:9
 returns : tie.Need-returns
 returns c = search needs
 
--- src/main.rt:28:34
+cast-end : tie.Need-cast-end
+cast-end c = search needs
+
 array-share-prefix-line : tie.Need-array-share-prefix-line
 array-share-prefix-line c =
     let f = length-answered _ _ _ (sym (c .before .before .before .before .row-line .ensures .0) ∙ c .before .a .given .1) in
     omega (arith, f .1, c .before .before .before .before .row-line .kept .0)
 
--- src/main.rt:28:34
 slice-aggregate-write-all : tie.Need-slice-aggregate-write-all
 slice-aggregate-write-all c =
     let f = length-answered _ _ _ (sym (c .before .before .before .before .before .row-line .ensures .0) ∙ c .before .before .a .given .1) in
     sym (length-take-le _ (c .before .before .before .before .before .row-line .last .0) (omega (arith, f .1, c .before .before .before .before .before .row-line .kept .0)))
 
--- src/main.rt:28:5
 write-all-requires : tie.Need-write-all-requires
 write-all-requires c κs = search needs
 
--- src/main.rt:22:1
 returns-2 : tie.Need-returns-2
 returns-2 c = search needs
 
@@ -56,6 +50,7 @@ write-row-spec =
     enum-known-a
     enum-told
     returns
+    cast-end
     array-share-prefix-line
     slice-aggregate-write-all
     write-all-requires

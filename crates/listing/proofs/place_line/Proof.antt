@@ -15,6 +15,12 @@ returns c =
 put-requires : tie.Need-put-requires
 put-requires c κs = search needs
 
+cast-t8 : tie.Need-cast-t8
+cast-t8 c =
+    let h = c .before .before .before .before .before .before .before .pre in
+    let p = c .before .before .put .ensures .place in
+    omega arith
+
 same-length : tie.Need-same-length
 same-length c = search needs
 
@@ -26,4 +32,4 @@ returns-2 c =
     line-placed (a .line .now) (a .out .now) _ (p .result) (omega (arith, b .if1 .left)) (p .ensures)
 
 pub place-line-spec : {M : Type 1} → statement M
-place-line-spec = tie.close (tie.spec returns put-requires same-length returns-2)
+place-line-spec = tie.close (tie.spec returns put-requires cast-t8 same-length returns-2)

@@ -27,7 +27,10 @@ slice-aggregate-place-line c =
     sym (length-take-le (p .result) (p .last .0) (omega (arith, p .kept .0, p .ensures .1)))
 
 place-line-requires : tie.Need-place-line-requires
-place-line-requires c κs = search needs
+place-line-requires c κs =
+    let p = c .before .before .before .put-row in
+    let l = length-take-le (p .result) (p .last .0) (omega (arith, p .kept .0, p .ensures .1)) in
+    omega (arith, l, p .ensures .1)
 
 same-length : tie.Need-same-length
 same-length c = search needs

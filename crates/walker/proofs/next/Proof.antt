@@ -1,4 +1,4 @@
--- `next` meets its contract: a walk of its MIR, by hand. The struct is lent: the borrow is opened, the slice and the place that it holds go to the covered step, the step and the place to the covered `place_behind`, the place is stored, and the borrow is closed at the struct with the new place.
+-- `next` meets its contract: a walk of its MIR, by hand. The struct is lent: the borrow is opened, the slice and the place that it holds go to the covered step, the step and the place to the covered `place_after`, the place is stored, and the borrow is closed at the struct with the new place.
 -- The struct is Copy: what its slice owns is taken from a copy of what it owns.
 use mathlib.Core.Path.{_≡_, refl, ap}
 use Prim.Native.Nat.{ℕ, _<_, _^_}
@@ -42,7 +42,7 @@ use denote.Triple.Entry.{onEntry}
 use denote.Triple.Spec.{Meets, tripleOf}
 use denote.Triple.Table.{entered, cited}
 use denote.Triple.Walked.{says, Stays, stay-ref, walkOf, goes-ref, Walks, ends-at, walked, walk-meets}
-use Rattle.format.specs.Views.{stepAt, placeBehind}
+use Rattle.format.specs.Views.{stepAt, placeAfter}
 use Rattle.format.specs.declared.Step.{Step}
 use Rattle.format.proofs.Step as S
 use Rattle.format.proofs.Step.Laws as S′
@@ -50,10 +50,10 @@ use Rattle.lookup.proofs.step as step-at
 use Rattle.lookup.proofs.step.Symbol as step-at-def
 use Rattle.lookup.proofs.step.Symbol.{name as #lookup·step}
 use Rattle.lookup.proofs.step.Met as step-at-thm
-use Rattle.walker.proofs.place_behind as place-behind
-use Rattle.walker.proofs.place_behind.Symbol as place-behind-def
-use Rattle.walker.proofs.place_behind.Symbol.{name as #walker·place-behind}
-use Rattle.walker.proofs.place_behind.Met as place-behind-thm
+use Rattle.walker.proofs.place_after as place-after
+use Rattle.walker.proofs.place_after.Symbol as place-after-def
+use Rattle.walker.proofs.place_after.Symbol.{name as #walker·place-after}
+use Rattle.walker.proofs.place_after.Met as place-after-thm
 use Rattle.walker.specs.declared.Walker.{Walker}
 use Rattle.walker.proofs.Walker as T
 use Rattle.walker.proofs.Walker.Laws as T′
@@ -81,7 +81,7 @@ module _ {M : Type 1} (𝓤 : URA M) (H : Heap 𝓤) (A : Atoms 𝓤) (mem : Mem
   StepAt = tripleOf 𝓤 H A step-at.signature (step-at.spec 𝓤 H A mem run)
 
   abbrev PlaceBehind : Contract 𝓤
-  PlaceBehind = tripleOf 𝓤 H A place-behind.signature (place-behind.spec 𝓤 H A mem run)
+  PlaceBehind = tripleOf 𝓤 H A place-after.signature (place-after.spec 𝓤 H A mem run)
 
 module _ {M : Type 1} (𝓤 : URA M) (H : Heap 𝓤) (A : Atoms 𝓤) (W : Given 𝓤 H A) (at-mem : Memory → SProp 𝓤) (run : Routine → Fun 𝓤) (κ κ′ : Lft) (q q′ : Share) (bounds : AllOutlive 2 (nexts.signature .outlives) (κ, (κ′, tt))) (b o : ℕ) (γ : GName) (h : Walker) where
   abbrev x : RefT Walker × Unit {0}
@@ -140,13 +140,13 @@ module _ {M : Type 1} (𝓤 : URA M) (H : Heap 𝓤) (A : Atoms 𝓤) (W : Given
   Steps t = t ≡ stepAt (now (h .token)) (h .place)
 
   abbrev Places : Step → ℕ → Type 0
-  Places t r = r ≡ placeBehind (h .place) t
+  Places t r = r ≡ placeAfter (h .place) t
 
   said : (t : Step) → ent 𝓤 (ensured 𝓤 H A step-at.ended (step-at.clauses 𝓤 H A at-mem run) (κ′, tt) (h .token, (h .place, tt)) tt t) (fact 𝓤 (Steps t))
   said t = exE 𝓤 _ (λ ws. snd∗ 𝓤 (sem 𝓤 H A (lasts step-at.ended (κ′, tt) (h .token, (h .place, tt)) ws)) (fact 𝓤 (Steps t)))
 
-  said′ : (t : Step) (r : ℕ) → ent 𝓤 (ensured 𝓤 H A place-behind.ended (place-behind.clauses 𝓤 H A at-mem run) tt (t, (h .place, tt)) tt r) (fact 𝓤 (Places t r))
-  said′ t r = exE 𝓤 _ (λ ws. snd∗ 𝓤 (sem 𝓤 H A (lasts place-behind.ended tt (t, (h .place, tt)) ws)) (fact 𝓤 (Places t r)))
+  said′ : (t : Step) (r : ℕ) → ent 𝓤 (ensured 𝓤 H A place-after.ended (place-after.clauses 𝓤 H A at-mem run) tt (t, (h .place, tt)) tt r) (fact 𝓤 (Places t r))
+  said′ t r = exE 𝓤 _ (λ ws. snd∗ 𝓤 (sem 𝓤 H A (lasts place-after.ended tt (t, (h .place, tt)) ws)) (fact 𝓤 (Places t r)))
 
   exits : (t : Step) (u : Val) (r : ℕ) → Steps t → Places t r
       → ent 𝓤 (⋆ 𝓤 H A (‵ (fobs γ (B κ′ .coded .code (h′ r))) ∷ ‵ (fbor κ (Body (mem (B κ′)) b o γ)) ∷ ‵ (flft κ q) ∷ (‵ (flft κ′ q′) ⊛ ‵ ftrue) ∷ ‵ (S.the-row .own t (u ∷ [])) ∷ [])) (Post u)
@@ -155,7 +155,7 @@ module _ {M : Type 1} (𝓤 : URA M) (H : Heap 𝓤) (A : Atoms 𝓤) (W : Given
       suffices ! _ (ends-at 𝓤 H A nexts.ended stayed (nexts.clauses 𝓤 H A at-mem run) W (((κ, (κ′, tt)), (q, (q′, tt)), bounds, x, at), tt) u t (h′ r, tt) (tt, tt)) $ says ! (e, (refl, e′)) $
       move ! (2 ∷ 3 ∷ []) $ join ! $ frame ! $ feqI ! (List Val) (vptr b o ∷ []) (vptr b o ∷ []) refl $ fjoin3 ! $ nothing ! $ move ! (1 ∷ 0 ∷ []) $ fjoin ! $ frame ! $ done !
 
-  module _ (C : Calls 𝓤 H) (Λ : Loops 𝓤 H) (fm : FmC 𝓤 H (W .laws) C) (known : Triple 𝓤 (C #lookup·step) (StepAt 𝓤 H A at-mem run)) (known′ : Triple 𝓤 (C #walker·place-behind) (PlaceBehind 𝓤 H A at-mem run)) where
+  module _ (C : Calls 𝓤 H) (Λ : Loops 𝓤 H) (fm : FmC 𝓤 H (W .laws) C) (known : Triple 𝓤 (C #lookup·step) (StepAt 𝓤 H A at-mem run)) (known′ : Triple 𝓤 (C #walker·place-after) (PlaceBehind 𝓤 H A at-mem run)) where
     walk : ent 𝓤 (onEntry 𝓤 H A nexts.signature (κ, (κ′, tt)) (q, (q′, tt)) x at) (WpFn 𝓤 H C Λ code.function (vptr b o ∷ []) Post)
     walk =
         qed W ((‵ (flft κ q) ⊛ ‵ (flft κ′ q′) ⊛ ‵ ftrue) ∷ ‵ (owns (MutRef (named 0) κ (B κ′) ∷ []) x at) ∷ []) ∵ enter ! C Λ code.function (vptr b o ∷ []) _ $
@@ -179,7 +179,7 @@ module _ {M : Type 1} (𝓤 : URA M) (H : Heap 𝓤) (A : Atoms 𝓤) (W : Given
         -- the step owns only facts, which are had once more for the call
         owned ! S.the-row (Is S.the-row) (EL.makes S.the-type S′.the-plain 𝓤 H A) t _ is $ use1 W (raw (PlaceBehind 𝓤 H A at-mem run .pre (to′ t u))) (goes′ t u (fits g)) $
         calls-at ! fm (PlaceBehind 𝓤 H A at-mem run) known′ (to′ t u) (and-then ! (load ! (from ! (stop !)) (look ! 11 refl)) (and-then ! (load ! (from ! (stop !)) (look ! 13 refl)) (no-more !))) (λ w.
-        use1 W (later (some (λ (r : ℕ). (‵ ftrue ⊛ ‵ (usize .own r (w ∷ []))) ⊛ raw (ensured 𝓤 H A place-behind.ended (place-behind.clauses 𝓤 H A at-mem run) tt (t, (h .place, tt)) tt r)))) (id⊢ 𝓤 _) $ await ! tt $ pick ! (λ r.
+        use1 W (later (some (λ (r : ℕ). (‵ ftrue ⊛ ‵ (usize .own r (w ∷ []))) ⊛ raw (ensured 𝓤 H A place-after.ended (place-after.clauses 𝓤 H A at-mem run) tt (t, (h .place, tt)) tt r)))) (id⊢ 𝓤 _) $ await ! tt $ pick ! (λ r.
         split ! $ move ! (1 ∷ []) $ use1 W (raw (fact 𝓤 (Places t r))) (said′ t r) $ heard ! (Places t r) (λ e′. split ! $ drop ! $
         peeks ! usize (Is usize) (shows 𝓤 H A usize) r (w ∷ []) (λ is′.
         -- [the place's fact; the step; 'a's token; what the Walker owns; its cell; the open borrow; obs; auth; true; _5@9 …]
@@ -197,11 +197,11 @@ module _ {M : Type 1} (𝓤 : URA M) (H : Heap 𝓤) (A : Atoms 𝓤) (W : Given
         fits g = LL.owed (T.the-type (α κ′)) (T′.the-laws (α κ′)) h _ g .1 .0 .1
 
 module _ {M : Type 1} (𝓤 : URA M) (H : Heap 𝓤) (A : Atoms 𝓤) (W : Given 𝓤 H A) (mem : Memory → SProp 𝓤) (run : Routine → Fun 𝓤) where
-  next-walks : (C : Calls 𝓤 H) (Λ : Loops 𝓤 H) → FmC 𝓤 H (W .laws) C → Triple 𝓤 (C #lookup·step) (StepAt 𝓤 H A mem run) → Triple 𝓤 (C #walker·place-behind) (PlaceBehind 𝓤 H A mem run) → Walks 𝓤 H A nexts.ended stayed (WpFn 𝓤 H C Λ code.function) (nexts.clauses 𝓤 H A mem run)
+  next-walks : (C : Calls 𝓤 H) (Λ : Loops 𝓤 H) → FmC 𝓤 H (W .laws) C → Triple 𝓤 (C #lookup·step) (StepAt 𝓤 H A mem run) → Triple 𝓤 (C #walker·place-after) (PlaceBehind 𝓤 H A mem run) → Walks 𝓤 H A nexts.ended stayed (WpFn 𝓤 H C Λ code.function) (nexts.clauses 𝓤 H A mem run)
   next-walks C Λ fm known known′ = walked 𝓤 H A nexts.ended stayed (nexts.clauses 𝓤 H A mem run) (WpFn 𝓤 H C Λ code.function) (λ κs. (ptr-vals, tt)) (λ κs. (mut-tells (named 0) (κs .0) (B (κs .1 .0)), tt))
       (λ κs qs bounds a _ are. via 𝓤 _ (fst∗ 𝓤 _ (emp 𝓤)) (walk 𝓤 H A W mem run (κs .0) (κs .1 .0) (qs .0) (qs .1 .0) bounds (a .0 .ptr .0) (a .0 .ptr .1) (a .0 .name) (a .0 .now) C Λ fm known known′))
 
-next-meets : {M : Type 1} (𝓤 : URA M) (H : Heap 𝓤) (A : Atoms 𝓤) → Given 𝓤 H A → (mem : Memory → SProp 𝓤) (run : Routine → Fun 𝓤) (𝓣 : Tables 𝓤 H) → Triple 𝓤 (𝓣 .C #lookup·step) (StepAt 𝓤 H A mem run) → Triple 𝓤 (𝓣 .C #walker·place-behind) (PlaceBehind 𝓤 H A mem run)
+next-meets : {M : Type 1} (𝓤 : URA M) (H : Heap 𝓤) (A : Atoms 𝓤) → Given 𝓤 H A → (mem : Memory → SProp 𝓤) (run : Routine → Fun 𝓤) (𝓣 : Tables 𝓤 H) → Triple 𝓤 (𝓣 .C #lookup·step) (StepAt 𝓤 H A mem run) → Triple 𝓤 (𝓣 .C #walker·place-after) (PlaceBehind 𝓤 H A mem run)
     → Meets 𝓤 H A nexts.signature (WpFn 𝓤 H (𝓣 .C) (𝓣 .Λ) code.function) (nexts.spec 𝓤 H A mem run)
 next-meets 𝓤 H A W mem run 𝓣 known known′ = walk-meets 𝓤 H A nexts.ended stayed W (goes-ref 𝓤 H A W 2 0 tt behind, tt) (nexts.clauses 𝓤 H A mem run) (WpFn 𝓤 H (𝓣 .C) (𝓣 .Λ) code.function) (WpFn-mono 𝓤 H (W .laws) 𝓣 code.function)
     (next-walks 𝓤 H A W mem run (𝓣 .C) (𝓣 .Λ) (fmOf 𝓤 H (W .laws) 𝓣) known known′)
@@ -213,4 +213,4 @@ next-spec 𝓤 H 𝓜 𝓖 𝓡 =
     (tables 𝓤 H 𝓜 𝓡 code.env .C) (tables 𝓤 H 𝓜 𝓡 code.env .Λ) #walker·next code.function (code.unfolded 𝓤 H 𝓜 𝓡)
     (next-meets 𝓤 H (𝓖 .A) (givenOf 𝓤 H 𝓜 𝓖) (𝓜 .mem) (𝓡 .run) (tablesOf 𝓤 H 𝓜 (tables 𝓤 H 𝓜 𝓡 code.env))
     (cited 𝓤 H (StepAt 𝓤 H (𝓖 .A) (𝓜 .mem) (𝓡 .run)) 𝓜 𝓡 code.env #lookup·step step-at-def.routine code.calls-lookup·step (step-at-thm.met 𝓤 H 𝓜 𝓖 𝓡))
-    (cited 𝓤 H (PlaceBehind 𝓤 H (𝓖 .A) (𝓜 .mem) (𝓡 .run)) 𝓜 𝓡 code.env #walker·place-behind place-behind-def.routine code.calls-walker·place-behind (place-behind-thm.met 𝓤 H 𝓜 𝓖 𝓡)))
+    (cited 𝓤 H (PlaceBehind 𝓤 H (𝓖 .A) (𝓜 .mem) (𝓡 .run)) 𝓜 𝓡 code.env #walker·place-after place-after-def.routine code.calls-walker·place-after (place-after-thm.met 𝓤 H 𝓜 𝓖 𝓡)))

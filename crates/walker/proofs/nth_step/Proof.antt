@@ -1,4 +1,4 @@
--- `nth_row` meets its contract: a walk of its MIR, by hand, with a loop. The reader that `start` makes is held in a local, which is lent to `next` once before the loop and once in each turn (`proofs/Lending.antt`).
+-- `nth_step` meets its contract: a walk of its MIR, by hand, with a loop. The reader that `start` makes is held in a local, which is lent to `next` once before the loop and once in each turn (`proofs/Lending.antt`).
 -- The invariant: the reader holds the bytes passed, its last step is the one at a place p, its own place is the one behind that step, and what is left of the walk from p is the whole walk.
 -- All that the proof knows of `start`, `next` and `goes_on` is that each meets its contract. Assumes nothing.
 use mathlib.Core.Path.{_≡_, refl, sym, ap, subst, _∙_}
@@ -43,7 +43,7 @@ use denote.Triple.Spec.{Meets, tripleOf}
 use denote.Triple.Table.{entered, cited}
 use denote.Triple.Walked.{says, Stays, stay-none-slice, stay-none, walkOf, goes-none-slice, goes-none, Walks, ends-at, walked, walk-meets}
 use denote.Exit.{yes}
-use Rattle.format.specs.Views.{stepAt, placeBehind}
+use Rattle.format.specs.Views.{stepAt, placeAfter}
 use Rattle.format.specs.declared.Step.{Step}
 use Rattle.format.proofs.Step as S
 use Rattle.format.proofs.Step.Laws as S′
@@ -65,13 +65,13 @@ use Rattle.walker.proofs.goes_on as goes-on
 use Rattle.walker.proofs.goes_on.Symbol as goes-on-def
 use Rattle.walker.proofs.goes_on.Symbol.{name as #walker·goes-on}
 use Rattle.walker.proofs.goes_on.Met as goes-on-thm
-use Rattle.walker.proofs.nth_row.Key.{name as #walker·nth-row}
-use Rattle.walker.proofs.nth_row as nth-row
-use Rattle.walker.proofs.nth_row.Statement as stated
-use Rattle.walker.proofs.nth_row.Code as code
-use Rattle.walker.proofs.nth_row.Code.Mir as pieces
+use Rattle.walker.proofs.nth_step.Key.{name as #walker·nth-step}
+use Rattle.walker.proofs.nth_step as nth-step
+use Rattle.walker.proofs.nth_step.Statement as stated
+use Rattle.walker.proofs.nth_step.Code as code
+use Rattle.walker.proofs.nth_step.Code.Mir as pieces
 
-abbrev stayed : Stays (nth-row.ended .signature .params) (nth-row.ended .kept)
+abbrev stayed : Stays (nth-step.ended .signature .params) (nth-step.ended .kept)
 stayed = (stay-none-slice (0 ∷ []) tt (plain (λ _. u8)) yes, (stay-none (λ _. u32) yes, tt))
 
 by-test : {P : Type 1} (b : Bool) → (b ≡ true → P) → (b ≡ false → P) → P
@@ -126,7 +126,7 @@ module _ {M : Type 1} (𝓤 : URA M) (H : Heap 𝓤) (A : Atoms 𝓤) (W : Given
   vals = (v ∷ [], (vint w32 k ∷ [], tt))
 
   abbrev Post : Val → SProp 𝓤
-  Post = walkOf 𝓤 H A nth-row.ended stayed (nth-row.clauses 𝓤 H A mem run) .post (((κ, tt), (q, tt), tt, args, vals), tt)
+  Post = walkOf 𝓤 H A nth-step.ended stayed (nth-step.clauses 𝓤 H A mem run) .post (((κ, tt), (q, tt), tt, args, vals), tt)
 
   abbrev OwnS : Fml
   OwnS = ShrSlice (named 0) κ u8 .own s (v ∷ [])
@@ -157,19 +157,19 @@ module _ {M : Type 1} (𝓤 : URA M) (H : Heap 𝓤) (A : Atoms 𝓤) (W : Given
 
   -- what `next` says of a step t that the reader d takes, being d′ then
   abbrev NextSays : Walker → Walker → Step → Type 0
-  NextSays d d′ t = (t ≡ stepAt (now (d .token)) (d .place)) × ((d′ .token ≡ d .token) × (d′ .place ≡ placeBehind (d .place) t))
+  NextSays d d′ t = (t ≡ stepAt (now (d .token)) (d .place)) × ((d′ .token ≡ d .token) × (d′ .place ≡ placeAfter (d .place) t))
 
   -- ---- the exit
   exits : (t : Step) (u : Val) → Is S.the-row t (u ∷ []) → t ≡ stepBehind (now s) 8 k → ent 𝓤 (⋆ 𝓤 H A (‵ (flft κ q) ∷ ‵ OwnS ∷ [])) (Post u)
   exits t u is e =
       qed W (‵ (flft κ q) ∷ ‵ OwnS ∷ []) ∵
-      suffices ! _ (ends-at 𝓤 H A nth-row.ended stayed (nth-row.clauses 𝓤 H A mem run) W (((κ, tt), (q, tt), tt, args, vals), tt) u t (tt, (tt, tt)) (tt, (tt, tt))) $ says ! e $
+      suffices ! _ (ends-at 𝓤 H A nth-step.ended stayed (nth-step.clauses 𝓤 H A mem run) W (((κ, tt), (q, tt), tt, args, vals), tt) u t (tt, (tt, tt)) (tt, (tt, tt))) $ says ! e $
       nothing ! $ move ! (1 ∷ 0 ∷ []) $ join ! $ frame ! $ nothing ! $ owned ! u32 (Is u32) (uint-makes 𝓤 H A W w32) k _ (refl, k-fits) $ fjoin ! $ move ! (1 ∷ 0 ∷ []) $ fjoin ! $ frame ! $
       owned ! S.the-row (Is S.the-row) (EL.makes S.the-type S′.the-plain 𝓤 H A) t _ is $ done !
 
   -- ---- the loop: the reader, the place of its last step, the step with its machine value, and how many steps are left
   abbrev Fact : Walker → ℕ → Step → Val → ℕ → Type 0
-  Fact d p t u n = (d .token ≡ s) × ((t ≡ stepAt (now s) p) × ((d .place ≡ placeBehind p t) × ((stepBehind (now s) p n ≡ stepBehind (now s) 8 k) × ((n < 2 ^ 32) × Is S.the-row t (u ∷ [])))))
+  Fact d p t u n = (d .token ≡ s) × ((t ≡ stepAt (now s) p) × ((d .place ≡ placeAfter p t) × ((stepBehind (now s) p n ≡ stepBehind (now s) 8 k) × ((n < 2 ^ 32) × Is S.the-row t (u ∷ [])))))
 
   abbrev State : Type 0
   State = (d : Walker) × ((p : ℕ) × ((t : Step) × ((u : Val) × ((n : ℕ) × Fact d p t u n))))
@@ -202,7 +202,7 @@ module _ {M : Type 1} (𝓤 : URA M) (H : Heap 𝓤) (A : Atoms 𝓤) (W : Given
               f .1 .0 ∙ e .0,
               (
                 f .0 ∙ ap (λ (b : RefT (List ℕ)). stepAt (now b) (r .place)) (e .0) ∙ ap (stepAt (now s)) (e .1),
-                (f .1 .1 ∙ ap (λ (p : ℕ). placeBehind p t) (e .1), (refl, (k-fits, is))),
+                (f .1 .1 ∙ ap (λ (p : ℕ). placeAfter p t) (e .1), (refl, (k-fits, is))),
               ),
             ),
           ),
@@ -227,7 +227,7 @@ module _ {M : Type 1} (𝓤 : URA M) (H : Heap 𝓤) (A : Atoms 𝓤) (W : Given
               f .1 .0 ∙ known x .0,
               (
                 f .0 ∙ ap (λ (b : RefT (List ℕ)). stepAt (now b) (x .0 .place)) (known x .0),
-                (f .1 .1, (more (now s) (x .1 .0) (left x) h (known x .1 .1 .0 ∙ ap (placeBehind (x .1 .0)) (known x .1 .0)) ∙ known x .1 .1 .1 .0, (less _ _ (down _ h) (known x .1 .1 .1 .1 .0), is))),
+                (f .1 .1, (more (now s) (x .1 .0) (left x) h (known x .1 .1 .0 ∙ ap (placeAfter (x .1 .0)) (known x .1 .0)) ∙ known x .1 .1 .1 .0, (less _ _ (down _ h) (known x .1 .1 .1 .1 .0), is))),
               ),
             ),
           ),
@@ -325,7 +325,7 @@ module _ {M : Type 1} (𝓤 : URA M) (H : Heap 𝓤) (A : Atoms 𝓤) (W : Given
       looped : (x : State) → Sq W (At x) (runs C Λ En pieces.t-6 (atRet En Post))
       looped x = first ! $ blocks ! $ loops ! 𝓣 Nearer Nearer-wf At turns x
 
-    walk : Is (ShrSlice (named 0) κ u8) s (v ∷ []) → ent 𝓤 (onEntry 𝓤 H A nth-row.signature (κ, tt) (q, tt) args vals) (WpFn 𝓤 H C Λ code.function (v ∷ vint w32 k ∷ []) Post)
+    walk : Is (ShrSlice (named 0) κ u8) s (v ∷ []) → ent 𝓤 (onEntry 𝓤 H A nth-step.signature (κ, tt) (q, tt) args vals) (WpFn 𝓤 H C Λ code.function (v ∷ vint w32 k ∷ []) Post)
     walk sh =
         qed W ((‵ (flft κ q) ⊛ ‵ ftrue) ∷ ‵ (owns (ShrSlice (named 0) κ u8 ∷ u32 ∷ []) args vals) ∷ []) ∵ enter ! C Λ code.function (v ∷ vint w32 k ∷ []) _ $
         alloc1 ! (λ l₀. alloc1 ! (λ l₁. alloc1 ! (λ l₂. alloc1 ! (λ l₃. alloc1 ! (λ l₄. alloc1 ! (λ l₅. alloc1 ! (λ l₆. alloc1 ! (λ l₇. alloc1 ! (λ l₈. alloc1 ! (λ l₉. alloc0 ! $ params1 ! $
@@ -363,22 +363,22 @@ abbrev Known : {M : Type 1} (𝓤 : URA M) (H : Heap 𝓤) (A : Atoms 𝓤) (mem
 Known 𝓤 H A mem run C = Triple 𝓤 (C #walker·start) (Start 𝓤 H A mem run) × (Triple 𝓤 (C #walker·next) (Next 𝓤 H A mem run) × Triple 𝓤 (C #walker·goes-on) (GoesOn 𝓤 H A mem run))
 
 module _ {M : Type 1} (𝓤 : URA M) (H : Heap 𝓤) (A : Atoms 𝓤) (W : Given 𝓤 H A) (mem : Memory → SProp 𝓤) (run : Routine → Fun 𝓤) (𝓣 : Tables 𝓤 H) (known : Known 𝓤 H A mem run (𝓣 .C)) where
-  nth-row-walks : Walks 𝓤 H A nth-row.ended stayed (WpFn 𝓤 H (𝓣 .C) (𝓣 .Λ) code.function) (nth-row.clauses 𝓤 H A mem run)
-  nth-row-walks = walked 𝓤 H A nth-row.ended stayed (nth-row.clauses 𝓤 H A mem run) (WpFn 𝓤 H (𝓣 .C) (𝓣 .Λ) code.function)
+  nth-step-walks : Walks 𝓤 H A nth-step.ended stayed (WpFn 𝓤 H (𝓣 .C) (𝓣 .Λ) code.function) (nth-step.clauses 𝓤 H A mem run)
+  nth-step-walks = walked 𝓤 H A nth-step.ended stayed (nth-step.clauses 𝓤 H A mem run) (WpFn 𝓤 H (𝓣 .C) (𝓣 .Λ) code.function)
       (λ κs. (slice-vals, (uint-vals w32, tt))) (λ κs. (shr-slice-tells (named 0) (κs .0) u8, (uint-tells w32, tt)))
       (λ κs qs bounds a g are. via 𝓤 _ (fst∗ 𝓤 _ (emp 𝓤)) (walk 𝓤 H A W mem run (κs .0) (qs .0) (a .0) (a .1 .0) (are .1 .0 .1) 𝓣 (known .0) (known .1 .0) (known .1 .1) (are .0)))
 
-  nth-row-meets : Meets 𝓤 H A nth-row.signature (WpFn 𝓤 H (𝓣 .C) (𝓣 .Λ) code.function) (nth-row.spec 𝓤 H A mem run)
-  nth-row-meets =
-      walk-meets 𝓤 H A nth-row.ended stayed W (goes-none-slice 𝓤 H A W 1 (0 ∷ []) tt (plain (λ _. u8)) yes, (goes-none 𝓤 H A W 1 (λ _. u32) yes (λ κs x f. refl), tt))
-      (nth-row.clauses 𝓤 H A mem run) (WpFn 𝓤 H (𝓣 .C) (𝓣 .Λ) code.function) (WpFn-mono 𝓤 H (W .laws) 𝓣 code.function) nth-row-walks
+  nth-step-meets : Meets 𝓤 H A nth-step.signature (WpFn 𝓤 H (𝓣 .C) (𝓣 .Λ) code.function) (nth-step.spec 𝓤 H A mem run)
+  nth-step-meets =
+      walk-meets 𝓤 H A nth-step.ended stayed W (goes-none-slice 𝓤 H A W 1 (0 ∷ []) tt (plain (λ _. u8)) yes, (goes-none 𝓤 H A W 1 (λ _. u32) yes (λ κs x f. refl), tt))
+      (nth-step.clauses 𝓤 H A mem run) (WpFn 𝓤 H (𝓣 .C) (𝓣 .Λ) code.function) (WpFn-mono 𝓤 H (W .laws) 𝓣 code.function) nth-step-walks
 
-pub nth-row-spec : {M : Type 1} → stated.statement M
+pub nth-step-spec : {M : Type 1} → stated.statement M
 unfolding code.routine tablesOf
-nth-row-spec 𝓤 H 𝓜 𝓖 𝓡 =
-    entered 𝓤 H (tripleOf 𝓤 H (𝓖 .A) nth-row.signature (nth-row.spec 𝓤 H (𝓖 .A) (𝓜 .mem) (𝓡 .run)))
-    (tables 𝓤 H 𝓜 𝓡 code.env .C) (tables 𝓤 H 𝓜 𝓡 code.env .Λ) #walker·nth-row code.function (code.unfolded 𝓤 H 𝓜 𝓡)
-    (nth-row-meets 𝓤 H (𝓖 .A) (givenOf 𝓤 H 𝓜 𝓖) (𝓜 .mem) (𝓡 .run) (tablesOf 𝓤 H 𝓜 (tables 𝓤 H 𝓜 𝓡 code.env)) (
+nth-step-spec 𝓤 H 𝓜 𝓖 𝓡 =
+    entered 𝓤 H (tripleOf 𝓤 H (𝓖 .A) nth-step.signature (nth-step.spec 𝓤 H (𝓖 .A) (𝓜 .mem) (𝓡 .run)))
+    (tables 𝓤 H 𝓜 𝓡 code.env .C) (tables 𝓤 H 𝓜 𝓡 code.env .Λ) #walker·nth-step code.function (code.unfolded 𝓤 H 𝓜 𝓡)
+    (nth-step-meets 𝓤 H (𝓖 .A) (givenOf 𝓤 H 𝓜 𝓖) (𝓜 .mem) (𝓡 .run) (tablesOf 𝓤 H 𝓜 (tables 𝓤 H 𝓜 𝓡 code.env)) (
       cited 𝓤 H (Start 𝓤 H (𝓖 .A) (𝓜 .mem) (𝓡 .run)) 𝓜 𝓡 code.env #walker·start start-def.routine code.calls-walker·start (start-thm.met 𝓤 H 𝓜 𝓖 𝓡),
       (
         cited 𝓤 H (Next 𝓤 H (𝓖 .A) (𝓜 .mem) (𝓡 .run)) 𝓜 𝓡 code.env #walker·next next-def.routine code.calls-walker·next (next-thm.met 𝓤 H 𝓜 𝓖 𝓡),

@@ -1,8 +1,8 @@
 -- A record's next place, else the place itself.
 use Rattle.walker.proofs.Laws.{stays}
 use borrow.Author.Needs.{needs}
-use Rattle.walker.proofs.place_behind.Statement.{statement}
-use Rattle.walker.proofs.place_behind.Tie as tie
+use Rattle.walker.proofs.place_after.Statement.{statement}
+use Rattle.walker.proofs.place_after.Tie as tie
 
 -- src/lib.rt:16:25
 enum-known-s : tie.Need-enum-known-s
@@ -20,5 +20,5 @@ cast-result c = search needs
 returns-2 : tie.Need-returns-2
 returns-2 c = search needs
 
-pub place-behind-spec : {M : Type 1} → statement M
-place-behind-spec = tie.close (tie.spec enum-known-s returns cast-result returns-2)
+pub place-after-spec : {M : Type 1} → statement M
+place-after-spec = tie.close (tie.spec enum-known-s returns cast-result returns-2)

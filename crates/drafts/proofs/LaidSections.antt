@@ -18,7 +18,7 @@ use Rattle.format.proofs.Complete.{part-stated}
 use Rattle.format.proofs.Flat.{grouped}
 use Rattle.format.proofs.Header.{behind-header}
 use Rattle.format.proofs.Accepted.{reading-sound}
-use Rattle.format.proofs.Changes.{placeBehind}
+use Rattle.format.proofs.Changes.{sectionsEnd}
 use Rattle.drafts.specs.Tiling.{Tiled, LastAt}
 use Rattle.drafts.proofs.Sections.{section-then, section-long}
 use Rattle.drafts.proofs.Tiling.{States, laid, Cut, laid-tiled, passed, passed-then, cut-at, only-one}
@@ -106,7 +106,7 @@ pub record LastRead (d : List ℕ) (ss : List Section) (o : ℕ) : Type 0 where
   pub before : List Section
   pub last : Section
   pub whole : ss ≡ before ++ last ∷ []
-  pub place : placeBehind before ≡ o
+  pub place : sectionsEnd before ≡ o
   pub bytes : drop o (take (stated d) d) ≡ sectionBytes last
 
 pub last-read : (d : List ℕ) (ss : List Section) (o : ℕ) → Bytes d → reading false d ≡ found ss → LastAt (take (stated d) d) 8 o
