@@ -11,7 +11,7 @@ use Rattle.format.specs.Bytes.{number, bytesAt}
 use Rattle.sections.proofs.Laws.{byte-number}
 use Rattle.format.specs.Parts.{rule, sameKind, Part}
 use Rattle.format.specs.Rules.{Section}
-use Rattle.format.specs.Reading.{stated, section}
+use Rattle.format.specs.Reading.{stated}
 use Rattle.format.specs.declared.Answer.{Answer}
 use Rattle.format.specs.declared.Answer.the-variants.{Accepted, Refused}
 use Rattle.rules.specs.Ids.{Held, RuleAnswered}

@@ -1,7 +1,7 @@
 -- An addition that reads the longer draft first is the addition of the definition. Assumes nothing.
 use mathlib.Core.Path.{_≡_, refl, sym, ap, _∙_, subst}
 use mathlib.Core.Bool.{Bool, true, false, _||_}
-use mathlib.Core.List.{List, [], _∷_, _++_}
+use mathlib.Core.List.{List, [], _∷_}
 use mathlib.Core.Logic.{_⊎_, ⊎-elim}
 use Prim.Native.Nat.{ℕ, _+_, _≤_, _<_}
 use native.Mathlib.Omega.{arith}
@@ -12,9 +12,9 @@ use lib.Seq.{drop-at, drop-drop, length-take-le}
 use borrow.Author.Tests.{eqb-true, eq-eqb, ne-eqb}
 use Rattle.format.specs.Bytes.{All, Bytes}
 use Rattle.format.specs.Layout.{write}
-use Rattle.format.specs.Parts.{Kind, sectionId, layout, Part, span, writeParts}
+use Rattle.format.specs.Parts.{Kind, sectionId, layout, span, writeParts}
 use Rattle.format.specs.Rules.{external, Section}
-use Rattle.format.specs.Reading.{refused, found, fault, need, andThen, idOf, stated, headerChecks, reading}
+use Rattle.format.specs.Reading.{refused, found, fault, idOf, stated, headerChecks, reading}
 use Rattle.format.specs.Writer.{draftAfter}
 use Rattle.format.proofs.Tests.{Hold, need-passed, need-failed}
 use Rattle.format.proofs.Turns.{then-same}
@@ -23,7 +23,6 @@ use Rattle.format.proofs.Grouping.{Grouped, all-split, all-map}
 use Rattle.format.proofs.Sound.{GoodPart, GoodSub, GoodSection, subs-of}
 use Rattle.format.proofs.Flat.{grouped}
 use Rattle.format.proofs.Accepted.{reading-sound}
-use Rattle.format.proofs.Changes.{sectionsEnd}
 use Rattle.contents.proofs.Headers.{lengths}
 use Rattle.drafts.specs.Adding.{Reads, Standing, lastPlace, refusedAfter, ownFirst, appended, sectionAdded, subsectionAdded, holdsSubsections, fixedFields}
 use Rattle.drafts.specs.Tiling.{here, Tiled, LastAt, LastOf, LastSection}

@@ -1,11 +1,11 @@
 -- Where the longer draft reads, and the draft's own parts end where it does, the draft reads. Assumes nothing.
-use mathlib.Core.Path.{_≡_, refl, sym, ap, ap₂, _∙_, subst}
-use mathlib.Core.Bool.{Bool, true, false}
-use mathlib.Core.List.{List, [], _∷_, _++_, append-assoc, append-nil}
+use mathlib.Core.Path.{_≡_, sym, ap, _∙_, subst}
+use mathlib.Core.Bool.{false}
+use mathlib.Core.List.{List, _++_, append-nil}
 use Prim.Native.Nat.{ℕ, _+_, _≤_, _<_}
 use native.Mathlib.Omega.{arith}
-use lib.ListN.{length, take, drop, length-append, length-drop, take-append-drop}
-use lib.Seq.{take-at, drop-at, take-all, drop-append-le, length-take-le}
+use lib.ListN.{length, take, drop, take-append-drop}
+use lib.Seq.{take-all, drop-append-le, length-take-le}
 use Rattle.format.specs.Bytes.{All, Bytes}
 use Rattle.format.specs.Parts.{Part, Choice, writeParts, written}
 use Rattle.format.specs.Rules.{external, Section, sectionsOf}
@@ -13,7 +13,7 @@ use Rattle.format.specs.Legal.{Lawful}
 use Rattle.format.specs.Reading.{found, idOf, stated, headerChecks, reading, partsOf}
 use Rattle.format.proofs.Numbers.{bytes-take}
 use Rattle.format.proofs.Tests.{Hold}
-use Rattle.format.proofs.Grouping.{Grouped, all-join, all-split}
+use Rattle.format.proofs.Grouping.{all-join, all-split}
 use Rattle.format.proofs.Sound.{GoodSection}
 use Rattle.format.proofs.Flat.{grouped}
 use Rattle.format.proofs.Header.{header-written, written-front}
@@ -23,7 +23,7 @@ use Rattle.format.proofs.Writing.{draft-of}
 use Rattle.format.proofs.Changes.{restate}
 use Rattle.contents.proofs.Headers.{lengths}
 use Rattle.drafts.specs.Adding.{grown, Reads}
-use Rattle.drafts.specs.Tiling.{TiledTo, Tiled}
+use Rattle.drafts.specs.Tiling.{Tiled}
 use Rattle.drafts.proofs.Tiling.{States, laid, passed, passed-then, cut-at}
 use Rattle.drafts.proofs.Sections.{parts-join}
 use Rattle.drafts.proofs.LaidSections.{sectionBytes, sections-laid, draft-laid}

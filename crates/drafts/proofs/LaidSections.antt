@@ -2,18 +2,18 @@
 use mathlib.Core.Path.{_≡_, refl, sym, ap, _∙_, subst}
 use mathlib.Core.Bool.{Bool, false}
 use mathlib.Core.List.{List, [], _∷_, _++_, append-nil}
-use Prim.Native.Nat.{ℕ, _+_, _^_, _≤_, _<_}
+use Prim.Native.Nat.{ℕ, _+_, _^_, _<_}
 use native.Mathlib.Omega.{arith}
 use lib.ListN.{length, take, drop, length-append, length-drop}
 use lib.Seq.{length-take-le}
 use Rattle.format.specs.Bytes.{All, Bytes}
 use Rattle.format.specs.Layout.{write}
-use Rattle.format.specs.Parts.{isSubsection, layout, Part, size, span, writeParts}
+use Rattle.format.specs.Parts.{layout, Part, size, span, writeParts}
 use Rattle.format.specs.Rules.{external, Section}
 use Rattle.format.specs.Reading.{found, idOf, stated, reading, partsOf}
 use Rattle.format.proofs.Unique.{size-any, size-pos}
 use Rattle.format.proofs.Grouping.{Grouped, Subs, span-section, span-sub}
-use Rattle.format.proofs.Sound.{GoodPart, GoodSub, GoodSection, subs-of}
+use Rattle.format.proofs.Sound.{GoodPart, GoodSection, subs-of}
 use Rattle.format.proofs.Complete.{part-stated}
 use Rattle.format.proofs.Flat.{grouped}
 use Rattle.format.proofs.Header.{behind-header}
@@ -21,7 +21,7 @@ use Rattle.format.proofs.Accepted.{reading-sound}
 use Rattle.format.proofs.Changes.{sectionsEnd}
 use Rattle.drafts.specs.Tiling.{Tiled, LastAt}
 use Rattle.drafts.proofs.Sections.{section-then, section-long}
-use Rattle.drafts.proofs.Tiling.{States, laid, Cut, laid-tiled, passed, passed-then, cut-at, only-one}
+use Rattle.drafts.proofs.Tiling.{States, laid, laid-tiled, passed, passed-then, cut-at, only-one}
 
 -- ---- sections
 

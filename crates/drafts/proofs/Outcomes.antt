@@ -8,7 +8,7 @@ use lib.Dec.{leb}
 use lib.ListN.{length, drop}
 use lib.Seq.{sets}
 use borrow.Author.Tests.{le-leb, lt-leb}
-use Rattle.format.specs.Reading.{Fault, Outcome, refused, found, fault, need, andThen, told, stated, reading, rowCount}
+use Rattle.format.specs.Reading.{Fault, Outcome, refused, found, fault, andThen, told, stated, reading, rowCount}
 use Rattle.format.specs.Writer.{writeAnswer, draftAfter}
 use Rattle.format.specs.declared.Answer.{Answer}
 use Rattle.format.specs.declared.Answer.the-variants.{Accepted, Refused}

@@ -11,10 +11,10 @@ use lib.Seq.{take-at, drop-at, take-append-le, drop-append-le, drop-drop, length
 use borrow.Author.Tests.{eqb-true}
 use Rattle.format.specs.Bytes.{All, Bytes}
 use Rattle.format.specs.Layout.{write, least, fits}
-use Rattle.format.specs.Parts.{Kind, sectionId, tag, body, isSubsection, layout, Part, size, span, subsectionsLength, writeParts, Choice}
+use Rattle.format.specs.Parts.{Kind, sectionId, tag, body, isSubsection, layout, Part, size, span, writeParts, Choice}
 use Rattle.format.specs.Rules.{external, Section}
 use Rattle.format.specs.Legal.{Lawful}
-use Rattle.format.specs.Reading.{found, idOf, stated, madeLength, holdsSubs, headerChecks, reading, partsOf}
+use Rattle.format.specs.Reading.{found, idOf, stated, holdsSubs, headerChecks, reading, partsOf}
 use Rattle.format.proofs.Finding.{every-kind}
 use Rattle.format.proofs.Fitting.{part-fits}
 use Rattle.format.proofs.Numbers.{bytes-take, bytes-drop}
@@ -34,7 +34,7 @@ use Rattle.drafts.proofs.Sections.{id-framed, id-small}
 use Rattle.drafts.proofs.LaidSections.{sectionBytes, subBytes, sections-laid, subs-laid, subs-state}
 use Rattle.drafts.proofs.Longer.{restate-long, restate-front, grown-long}
 use Rattle.drafts.proofs.Restating.{restate-behind, restate-id, restate-stated, restate-back, id-front, id-taken}
-use Rattle.drafts.proofs.Fronts.{front-reads, LongerRead, longer-read, grown-bytes}
+use Rattle.drafts.proofs.Fronts.{front-reads, longer-read, grown-bytes}
 
 -- ---- sections 12 and 14
 

@@ -1,22 +1,21 @@
 -- What the walk over the sections of a draft says of its reading. Assumes nothing.
-use mathlib.Core.Path.{_≡_, refl, sym, ap, _∙_, subst}
-use mathlib.Core.Bool.{Bool, true, false}
-use mathlib.Core.List.{List, [], _∷_, _++_}
-use Prim.Native.Nat.{ℕ, _+_, _≤_, _<_}
+use mathlib.Core.Path.{_≡_, refl, sym, _∙_}
+use mathlib.Core.Bool.{false}
+use mathlib.Core.List.{List}
+use Prim.Native.Nat.{ℕ}
 use native.Mathlib.Omega.{arith}
-use lib.ListN.{length, take, drop, length-drop}
+use lib.ListN.{take}
 use lib.Seq.{length-take-le}
 use Rattle.format.specs.Bytes.{Bytes}
-use Rattle.format.specs.Rules.{Section}
-use Rattle.format.specs.Reading.{found, told, stated, headerChecks, reading, rowCount}
+use Rattle.format.specs.Reading.{stated, headerChecks, rowCount}
 use Rattle.format.specs.declared.Answer.the-variants.{Accepted, Refused}
 use Rattle.format.proofs.Tests.{Hold}
 use Rattle.format.proofs.Writing.{told-found}
 use Rattle.sections.specs.Refusals.{firstRefusal}
 use Rattle.sections.proofs.Heads.{all-hold}
-use Rattle.contents.proofs.Headers.{Lengths, lengths, header-stops}
+use Rattle.contents.proofs.Headers.{lengths, header-stops}
 use Rattle.drafts.specs.Adding.{Reads, Standing}
-use Rattle.drafts.specs.Tiling.{Tiled, LastOf, LastSection}
+use Rattle.drafts.specs.Tiling.{LastOf, LastSection}
 use Rattle.drafts.specs.declared.last.Last.{Last}
 use Rattle.drafts.specs.declared.last.Last.the-variants.{At, Empty, Broken}
 use Rattle.drafts.proofs.LaidSections.{reads-tiled}

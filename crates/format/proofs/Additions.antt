@@ -1,11 +1,10 @@
 -- What an accepted addition makes of any lent draft: the added bytes, the header's length and, for a subsection, its
 -- section's length; every other byte stays.
 use mathlib.Core.Path.{_≡_, refl, sym, ap, ap₂, _∙_}
-use mathlib.Core.Bool.{true, false, _&&_}
+use mathlib.Core.Bool.{true, false}
 use mathlib.Core.List.{List, [], _∷_, _++_, append-assoc}
 use Prim.Native.Nat.{ℕ, _+_}
 use native.Mathlib.Omega.{arith}
-use lib.Dec.{leb}
 use lib.ListN.{length, take, drop, length-append, take-append-drop}
 use lib.Seq.{drop-at}
 use Rattle.format.specs.Bytes.{Bytes}
@@ -13,10 +12,10 @@ use Rattle.format.specs.Layout.{fits, write}
 use Rattle.format.specs.Parts.{isSubsection, layout, Part, size, span, writeParts, written, joins, header}
 use Rattle.format.specs.Rules.{external, Section}
 use Rattle.format.specs.Reading.{found, idOf, stated, reading, partsOf}
-use Rattle.format.specs.Writer.{longer, addition}
+use Rattle.format.specs.Writer.{addition}
 use Rattle.format.proofs.Finding.{sectionId-pos}
 use Rattle.format.proofs.Unique.{written-length}
-use Rattle.format.proofs.Tests.{needed, found-inj, followed}
+use Rattle.format.proofs.Refusing.{addition-read, addition-passed}
 use Rattle.format.proofs.Grouping.{all-split, joins-first, parts-last, parts-then-section, span-le}
 use Rattle.format.proofs.Sound.{GoodSection, subs-of}
 use Rattle.format.proofs.Complete.{part-stated}
@@ -38,31 +37,15 @@ any-draft d ss b e =
     let l = ap length (r .form) ∙ lib.Seq.length-take-le n d ends in
     draft-of i (partsOf ss) d (drop n d) (good-choice false i ss (r .byte) (r .good)) (good-lawful false i ss (r .known) (r .good)) (omega arith) form
 
--- What an accepted addition has passed: the draft reads as sections ss, the part joins them, and the longer draft is written.
-pub record Passed (d : List ℕ) (p : Part) (bs : List ℕ) : Type 0 where
-  pub sections : List Section
-  pub read : reading false d ≡ found sections
-  pub joins : joins 0 (partsOf sections ++ p ∷ []) ≡ true
-  pub form : written (idOf d) (partsOf sections ++ p ∷ []) ≡ bs
-
-addition-passed : (d : List ℕ) (p : Part) (bs : List ℕ) → addition (p .kind) (p .fields) d ≡ found bs → Passed d p bs
-unfolding addition
-addition-passed d p bs e =
-    let f = followed (reading false d) _ bs e in
-    let n₁ = needed (fits [] (layout (p .kind)) (p .fields)) _ _ bs (f .2) in
-    let n₂ = needed (joins 0 (partsOf (f .0) ++ p ∷ [])) _ _ bs (n₁ .1) in
-    let n₃ = needed (leb (stated d + size p) 3500 && leb (stated d + size p) (length d)) _ _ bs (n₂ .1) in
-    let g = followed (reading false (longer d (f .0) p)) _ bs (n₃ .1) in
-    record { sections = f .0; read = f .1; joins = n₂ .0; form = found-inj (g .2) }
-
 -- A section added changes the header's length and puts its bytes behind the draft's.
 pub section-changes : (d : List ℕ) (p : Part) (bs : List ℕ) → Bytes d → isSubsection (p .kind) ≡ false
     → addition (p .kind) (p .fields) d ≡ found bs
     → bs ≡ restate 0 (stated d + size p) (take (stated d) d) ++ write (size p) (layout (p .kind)) (p .fields)
 section-changes d p bs b f e =
-    let a = addition-passed d p bs e in
-    let ps : List Part = partsOf (a .sections) in
-    let w = any-draft d (a .sections) b (a .read) in
+    let r = addition-read d p bs e in
+    let a = addition-passed d p (r .0) bs (r .1) e in
+    let ps : List Part = partsOf (r .0) in
+    let w = any-draft d (r .0) b (r .1) in
     let st = draft-header (idOf d) ps d w .1 in
     let front = draft-front (idOf d) ps d w in
     sym (a .form)
@@ -116,11 +99,12 @@ pub sub-changes : (d : List ℕ) (p : Part) (bs : List ℕ) → Bytes d → isSu
     ≡ restate (sectionsEnd ts) (stated (drop (sectionsEnd ts) d) + size p) (restate 0 (stated d + size p) (take (stated d) d))
     ++ write (size p) (layout (p .kind)) (p .fields))
 sub-changes d p bs b f e =
-    let a = addition-passed d p bs e in
-    let j = joined p (a .sections) f (a .joins) in
+    let q = addition-read d p bs e in
+    let a = addition-passed d p (q .0) bs (q .1) e in
+    let j = joined p (q .0) f (a .joins) in
     let ts : List Section = j .0 in
     let t : Section = j .1 in
-    let read : reading false d ≡ found (ts ++ t ∷ []) = a .read ∙ ap found (j .2) in
+    let read : reading false d ≡ found (ts ++ t ∷ []) = q .1 ∙ ap found (j .2) in
     let r = reading-sound false d (ts ++ t ∷ []) b read in
     let g = all-split (GoodSection false (external (idOf d))) ts (t ∷ []) (r .good .each) .1 .0 in
     let i : ℕ = idOf d in

@@ -18,7 +18,7 @@ use Rattle.format.proofs.Finding.{and-split}
 use Rattle.format.proofs.Tests.{refused-not, needed, tests-passed}
 
 -- Two ways to go on are the same where they agree on what was found.
-then-same : {A B : Type 0} (o : Outcome A) (f g : A → Outcome B) → ((a : A) → o ≡ found a → f a ≡ g a) → andThen o f ≡ andThen o g
+pub then-same : {A B : Type 0} (o : Outcome A) (f g : A → Outcome B) → ((a : A) → o ≡ found a → f a ≡ g a) → andThen o f ≡ andThen o g
 unfolding andThen
 then-same (refused e) f g h = refl
 then-same (found a) f g h = h a refl

@@ -1,7 +1,7 @@
 -- The writer's calls over a whole run: what is added is what is read, what is finished is legal, and the parts of any
 -- legal token added in order give back its bytes.
 use mathlib.Core.Path.{_≡_, refl, sym, ap, ap₂, _∙_, subst}
-use mathlib.Core.Bool.{true, false, not, _&&_, _||_}
+use mathlib.Core.Bool.{true, false, not, _||_}
 use mathlib.Core.List.{List, [], _∷_, _++_, append-assoc, append-nil}
 use mathlib.Core.Logic.{_↔_}
 use Prim.Native.Nat.{ℕ, _+_, _^_, _≤_, _<_}
@@ -9,17 +9,18 @@ use native.Mathlib.Omega.{arith}
 use lib.Dec.{leb, lit≤}
 use lib.ListN.{length, take, drop, length-append, length-drop}
 use lib.Seq.{take-at, take-all}
-use borrow.Author.Tests.{le-leb, leb-true}
+use borrow.Author.Tests.{le-leb}
 use Rattle.format.specs.Bytes.{All, Bytes}
 use Rattle.format.specs.Layout.{fits}
-use Rattle.format.specs.Parts.{layout, Part, size, written, joins, Choice, WrittenForm}
+use Rattle.format.specs.Parts.{layout, Part, written, Choice, WrittenForm}
 use Rattle.format.specs.Rules.{external, Section, sectionsOf, hasRequired}
 use Rattle.format.specs.Legal.{knownId, Lawful, Legal}
 use Rattle.format.specs.Reading.{Outcome, refused, found, andThen, idOf, stated, told, lengthAllowed, reading, partsOf}
 use Rattle.format.specs.Writer.{draftAfter, start, longer, addition, finish}
 use Rattle.format.specs.declared.Answer.the-variants.{Accepted}
-use Rattle.format.proofs.Finding.{and-split, and-join}
+use Rattle.format.proofs.Finding.{and-join}
 use Rattle.format.proofs.Unique.{written-length, one-choice}
+use Rattle.format.proofs.Refusing.{addition-passed, addition-found}
 use Rattle.format.proofs.Tests.{found-inj, needed, need-passed, followed, then-found}
 use Rattle.format.proofs.Grouping.{all-join, all-split, stateable}
 use Rattle.format.proofs.Header.{header-read}
@@ -128,26 +129,21 @@ accepted-lawful i ps bs ss c h e r =
 -- An accepted addition makes the draft of the parts with the added one behind them.
 added : (i : ℕ) (ps : List Part) (d : List ℕ) (p : Part) (bs : List ℕ) → Draft i ps d → All Bytes (p .fields)
     → addition (p .kind) (p .fields) d ≡ found bs → Draft i (ps ++ p ∷ []) (draftAfter (found bs) d)
-unfolding addition
 added i ps d p bs w b e =
     let lg : List ℕ = longer d (sectionsOf ps) p in
-    let e₁ = sym (then-found _ (w .read)) ∙ e in
-    let n₁ = needed (fits [] (layout (p .kind)) (p .fields)) _ _ bs e₁ in
-    let n₂ = needed (joins 0 (partsOf (sectionsOf ps) ++ p ∷ [])) _ _ bs (n₁ .1) in
-    let n₃ = needed (leb (stated d + size p) 3500 && leb (stated d + size p) (length d)) _ _ bs (n₂ .1) in
-    let f = followed (reading false lg) _ bs (n₃ .1) in
-    let most = leb-true (stated d + size p) 3500 (and-split (leb (stated d + size p) 3500) _ (n₃ .0) .0) in
+    let v = addition-passed d p (sectionsOf ps) bs (w .read) e in
+    let most = v .most in
     let st = draft-header i ps d w .1 in
     let long = written-more i ps p in
     let form = longer-form i ps d p w in
     let c : Choice i (ps ++ p ∷ []) = record {
       identifier = w .choice .identifier;
       bytes = all-join (λ (q : Part). All Bytes (q .fields)) ps (p ∷ []) (w .choice .bytes) (b, tt);
-      fit = all-join (λ (q : Part). fits [] (layout (q .kind)) (q .fields) ≡ true) ps (p ∷ []) (w .choice .fit) (n₁ .0, tt);
-      joined = rw (w .flat) at (n₂ .0);
+      fit = all-join (λ (q : Part). fits [] (layout (q .kind)) (q .fields) ≡ true) ps (p ∷ []) (w .choice .fit) (v .fit, tt);
+      joined = rw (w .flat) at (v .joins);
     } in
-    let l = accepted-lawful i (ps ++ p ∷ []) lg (f .0) c (omega arith) form (f .1) in
-    let q : written i (ps ++ p ∷ []) ≡ bs = sym form ∙ found-inj (f .2) in
+    let l = accepted-lawful i (ps ++ p ∷ []) lg (v .read .0) c (omega arith) form (v .read .1) in
+    let q : written i (ps ++ p ∷ []) ≡ bs = sym form ∙ v .form in
     draft-of i (ps ++ p ∷ []) (draftAfter (found bs) d) (drop (length bs) d) c l (omega arith)
     (ap (λ (y : List ℕ). y ++ drop (length bs) d) (sym q))
 
@@ -155,7 +151,6 @@ added i ps d p bs w b e =
 adding : (i : ℕ) (ps : List Part) (d : List ℕ) (p : Part) → Draft i ps d → Choice i (ps ++ p ∷ []) → Lawful i (ps ++ p ∷ [])
     → length (written i (ps ++ p ∷ [])) ≤ 3500 → length (written i (ps ++ p ∷ [])) ≤ length d
     → addition (p .kind) (p .fields) d ≡ found (written i (ps ++ p ∷ []))
-unfolding addition
 adding i ps d p w c l h k =
     let lg : List ℕ = longer d (sectionsOf ps) p in
     let form = longer-form i ps d p w in
@@ -163,12 +158,7 @@ adding i ps d p w c l h k =
     let long = written-more i ps p in
     let read = draft-of i (ps ++ p ∷ []) lg [] c l h (form ∙ sym (append-nil (written i (ps ++ p ∷ [])))) .read in
     let fit = all-split (λ (q : Part). fits [] (layout (q .kind)) (q .fields) ≡ true) ps (p ∷ []) (c .fit) .1 .0 in
-    then-found _ (w .read)
-    ∙ need-passed (fits [] (layout (p .kind)) (p .fields)) _ _ fit
-    ∙ need-passed (joins 0 (partsOf (sectionsOf ps) ++ p ∷ [])) _ _ (rw (w .flat) (c .joined))
-    ∙ need-passed (leb (stated d + size p) 3500 && leb (stated d + size p) (length d)) _ _
-    (and-join _ _ (le-leb (stated d + size p) 3500 (omega arith)) (le-leb (stated d + size p) (length d) (omega arith)))
-    ∙ then-found _ read
+    addition-found d p (sectionsOf ps) (sectionsOf (ps ++ p ∷ [])) (w .read) fit (rw (w .flat) (c .joined)) (omega arith) (omega arith) read
     ∙ ap {B = Outcome (List ℕ)} found form
 
 -- ---- a run of additions

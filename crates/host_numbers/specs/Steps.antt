@@ -1,7 +1,6 @@
 -- A step of the walk, and a row asked for by its number, as the numbers that a host program gets. Where there is no row, its
 -- numbers are 0: so the end has kind 0, and no row has.
 use Prim.Native.Nat.{ℕ}
-use Rattle.format.specs.declared.Row.{Row}
 use Rattle.format.specs.declared.Step.{Step}
 use Rattle.format.specs.declared.Step.the-variants.{Record, End, Stopped}
 

@@ -1,5 +1,5 @@
 -- The two numbers of each case.
-use mathlib.Core.Path.{_≡_, sym, ap}
+use mathlib.Core.Path.{sym, ap}
 use Rattle.host_numbers.specs.Numbers.{numberOf, secondOf}
 use borrow.Author.Needs.{needs}
 use Rattle.host_numbers.proofs.give.Statement.{statement}

@@ -1,5 +1,5 @@
 -- The numbers of each case.
-use mathlib.Core.Path.{_≡_, sym, ap}
+use mathlib.Core.Path.{sym, ap}
 use Rattle.format.specs.Views.{whetherThere}
 use Rattle.host_numbers.specs.Numbers.{numberOf, secondOf, offsetOf, lengthOf}
 use borrow.Author.Needs.{needs}

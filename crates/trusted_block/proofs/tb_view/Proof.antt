@@ -1,5 +1,5 @@
 -- Where the field lies, as numbers.
-use mathlib.Core.Path.{_≡_, ap, _∙_}
+use mathlib.Core.Path.{ap, _∙_}
 use Rattle.format.specs.Views.{whetherThere, viewAnswer}
 use Rattle.host_numbers.specs.Numbers.{numberOf, secondOf, offsetOf, lengthOf}
 use borrow.Author.Needs.{needs}

@@ -1,5 +1,5 @@
 -- The header, then the loop over the sections.
-use mathlib.Core.Path.{_≡_, sym, ap, _∙_, subst}
+use mathlib.Core.Path.{sym, subst}
 use mathlib.Core.Bool.{false}
 use Prim.Native.Nat.{ℕ}
 use native.Mathlib.Omega.{arith}
@@ -9,7 +9,6 @@ use borrow.Author.Needs.{needs}
 use Rattle.reading.proofs.Filled.{bytes-of}
 use Rattle.contents.proofs.Headers.{header-lengths}
 use Rattle.drafts.specs.Tiling.{LastOf}
-use Rattle.drafts.specs.declared.last.Last.{Last}
 use Rattle.drafts.proofs.Whole.{header-unread, section-last}
 use Rattle.drafts.proofs.last.last_section.Statement.{statement}
 use Rattle.drafts.proofs.last.last_section.Tie as tie

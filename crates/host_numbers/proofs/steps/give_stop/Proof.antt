@@ -1,5 +1,5 @@
 -- The number and the place of a refusal, else zeros.
-use mathlib.Core.Path.{_≡_, sym, ap}
+use mathlib.Core.Path.{sym, ap}
 use Rattle.host_numbers.specs.Steps.{stepNumber, stepSecond}
 use Rattle.host_numbers.proofs.Stops.{no-stop}
 use borrow.Author.Needs.{needs}
