@@ -28,7 +28,7 @@ use Rattle.drafts.proofs.Tiling.{States, laid, passed, passed-then, cut
 use Rattle.drafts.proofs.Sections.{parts-join}
 use Rattle.drafts.proofs.LaidSections.{sectionBytes, sections-laid, draft-laid}
 use Rattle.drafts.proofs.Longer.{restate-long, grown-long}
-use Rattle.drafts.proofs.Restating.{restate-behind, restate-id, restate-stated, restate-bytes, id-taken}
+use Rattle.drafts.proofs.Restating.{behind-restated, restate-id, restate-stated, restate-bytes, id-taken}
 use Rattle.drafts.proofs.Additions.{restate-twice}
 use Rattle.drafts.proofs.Whole.{header-standing}
 
@@ -70,7 +70,7 @@ longer-read i n g a y ts form h q l m b e =
     let body : drop 8 (take (stated g) g) ≡ drop 8 a ++ y =
     ap (drop 8) (take-all (stated g) g (omega arith) ∙ form)
     ∙ drop-append-le 8 (restate 0 n a) y (omega arith)
-    ∙ ap (λ (x : List ℕ). x ++ y) (restate-behind 8 n a (omega arith)) in
+    ∙ ap (λ (x : List ℕ). x ++ y) (behind-restated 8 n a (omega arith)) in
     record {
       body = sym body ∙ v .bytes;
       states = v .states;

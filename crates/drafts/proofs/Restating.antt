@@ -17,8 +17,8 @@ behind j n (a ∷ b ∷ []) = refl
 behind j n (a ∷ b ∷ c ∷ []) = refl
 behind j n (a ∷ b ∷ c ∷ e ∷ bs) = refl
 
-pub restate-behind : (k n : ℕ) (bs : List ℕ) → 4 ≤ k → drop k (restate 0 n bs) ≡ drop k bs
-restate-behind k n bs h =
+pub behind-restated : (k n : ℕ) (bs : List ℕ) → 4 ≤ k → drop k (restate 0 n bs) ≡ drop k bs
+behind-restated k n bs h =
     let e : suc (suc (suc (suc (k - 4)))) ≡ k = omega arith in
     subst (λ (i : ℕ). drop i (restate 0 n bs) ≡ drop i bs) e (behind (k - 4) n bs)
 

@@ -25,7 +25,7 @@ use Rattle.format.proofs.Grouping.{Subs, all-split, all-map, parts-then-section
 use Rattle.format.proofs.Sound.{GoodPart, GoodSub, GoodSection, subs-of, fixed-made}
 use Rattle.format.proofs.Finding.{or-else}
 use Rattle.format.proofs.Flat.{grouped}
-use Rattle.format.proofs.Changes.{restate, relength}
+use Rattle.format.proofs.Changes.{restate, restate-behind, relength}
 use Rattle.contents.proofs.Headers.{lengths}
 use Rattle.drafts.specs.Adding.{grown, Reads, Standing, holdsSubsections, fixedFields}
 use Rattle.drafts.specs.Tiling.{TiledTo, Tiled, LastAt}
@@ -33,7 +33,7 @@ use Rattle.drafts.proofs.Tiling.{States, laid, passed, passed-then, cut
 use Rattle.drafts.proofs.Sections.{id-framed, id-small}
 use Rattle.drafts.proofs.LaidSections.{sectionBytes, subBytes, sections-laid, subs-laid, subs-state}
 use Rattle.drafts.proofs.Longer.{restate-long, restate-front, grown-long}
-use Rattle.drafts.proofs.Restating.{restate-behind, restate-id, restate-stated, restate-back, id-front, id-taken}
+use Rattle.drafts.proofs.Restating.{behind-restated, restate-id, restate-stated, restate-back, id-front, id-taken}
 use Rattle.drafts.proofs.Fronts.{front-reads, longer-read, grown-bytes}
 
 -- ---- sections 12 and 14
@@ -87,7 +87,7 @@ shorter x i t z w m g e h b s fits-in small u q =
     let first : take f (restate 0 m z) ≡ S =
     sym (take-append-le f (restate 0 m z) w (omega arith)) ∙ ap (take f) q ∙ take-at S (writeParts (t .subs)) f ls in
     let rest : drop f z ++ w ≡ writeParts (t .subs) =
-    ap (λ (y : List ℕ). y ++ w) (sym (restate-behind f m z four))
+    ap (λ (y : List ℕ). y ++ w) (sym (behind-restated f m z four))
     ∙ sym (drop-append-le f (restate 0 m z) w (omega arith)) ∙ ap (drop f) q ∙ drop-at S (writeParts (t .subs)) f ls in
     let subs = subs-of x k (t .subs) (g .subs) in
     let all : drop f z ≡ passed u = passed-then u ∙ append-nil (passed u) in
@@ -109,7 +109,7 @@ shorter x i t z w m g e h b s fits-in small u q =
       bytes =
           sym (restate-back m (length z) z b (omega arith) s)
           ∙ ap (restate 0 (length z)) (sym (take-append-drop f (restate 0 m z))
-          ∙ ap₂ (λ (y v : List ℕ). y ++ v) first (restate-behind f m z four ∙ behind))
+          ∙ ap₂ (λ (y v : List ℕ). y ++ v) first (behind-restated f m z four ∙ behind))
           ∙ sym (relength k (span (t .head) (t .subs)) (length z) (t .head .fields) (writeParts us))
           ∙ ap (λ (n : ℕ). write n (layout k) (t .head .fields) ++ writeParts us) long;
     }
@@ -132,7 +132,7 @@ grown-cut d w o h k l =
     let lA : length A ≡ o = restate-long 0 n a ∙ la in
     let front : restate 0 n D ≡ A ++ z = ap (restate 0 n) (sym (take-append-drop o D)) ∙ restate-front 0 n a z (omega arith) in
     let mid : restate o m (A ++ z) ≡ A ++ restate 0 m z =
-    ap (λ (j : ℕ). restate j m (A ++ z)) (sym lA) ∙ Rattle.format.proofs.Changes.restate-behind A z m in
+    ap (λ (j : ℕ). restate j m (A ++ z)) (sym lA) ∙ restate-behind A z m in
     ap (λ (y : List ℕ). restate o m y ++ w) front
     ∙ ap (λ (y : List ℕ). y ++ w) mid
     ∙ append-assoc A (restate 0 m z) w

@@ -23,7 +23,7 @@ set-behind [] b j v = ap (λ (n : ℕ). set b n v) (zero-add j)
 set-behind (x ∷ a) b j v = ap (λ (n : ℕ). set (x ∷ a ++ b) n v) (suc-add (length a) j) ∙ ap (λ (y : List ℕ). x ∷ y) (set-behind a b j v)
 
 -- A length restated behind a front.
-restate-behind : (a b : List ℕ) (n : ℕ) → restate (length a) n (a ++ b) ≡ a ++ restate 0 n b
+pub restate-behind : (a b : List ℕ) (n : ℕ) → restate (length a) n (a ++ b) ≡ a ++ restate 0 n b
 restate-behind a b n =
     ap (λ (y : List ℕ). set y (length a + 3) (n % 256)) (set-behind a b 2 (n / 256 % 256))
     ∙ set-behind a (set b 2 (n / 256 % 256)) 3 (n % 256)

@@ -16,6 +16,7 @@ use Rattle.format.specs.Legal.{Lawful, Complete, Legal, ruleCount, rules
 use Rattle.format.specs.Reading.{Fault, fault, refused, found, stated, reading, partsOf, answer}
 use Rattle.format.specs.Table.{Placed, placed, rows, columns, tableOf, tableAnswer, tableAfter}
 use Rattle.format.specs.Views.{view, viewAnswer, stepAt}
+use Rattle.format.specs.GivenNumbers.{numberOf}
 use Rattle.format.specs.Writer.{draftAfter, start, addition, finish}
 use Rattle.format.specs.Claims.{IsRow, Tiles, subsOf, ruleRows, slotsOf, viewsFrom, walk, walkPlace, additions, restate, sectionsEnd}
 use Rattle.format.specs.Examples.{tokenT, Holds, starred}
@@ -43,6 +44,10 @@ use Rattle.format.proofs.Examples as Examples
 pub accepted-exactly-when-legal : (bs : List ℕ) (n : ℕ) → Bytes bs
     → (answer bs ≡ Accepted n) ↔ ((l : Legal bs) × (n ≡ length (rows (l .parts))))
 accepted-exactly-when-legal bs n b = Tables.accepted-exactly bs n b
+
+-- In the paper's numbers: reading gives 0 exactly for the legal tokens.
+pub number-0-exactly-when-legal : (bs : List ℕ) → Bytes bs → (numberOf (answer bs) ≡ 0) ↔ Legal bs
+number-0-exactly-when-legal bs b = Tables.zero-exactly bs b
 
 -- "[..] and the lent table has room": reading into a table accepts exactly the legal tokens whose rows have room in it.
 pub accepted-into-table : (bs t : List ℕ) (n : ℕ) → Bytes bs

@@ -14,6 +14,7 @@ use Rattle.format.specs.Rules.{Section, sectionsOf}
 use Rattle.format.specs.Legal.{Legal}
 use Rattle.format.specs.Reading.{Fault, Outcome, refused, found, fault, need, andThen, place, reading, partsOf, rowCount, told, answer}
 use Rattle.format.specs.Table.{rows, columns, tableOf, roomFor, tableReading, tableAnswer, tableAfter}
+use Rattle.format.specs.GivenNumbers.{numberOf}
 use Rattle.format.specs.declared.Answer.{Answer}
 use Rattle.format.specs.declared.Answer.the-variants.{Accepted, Refused}
 use Rattle.format.proofs.Tests.{found-inj, needed, need-passed, followed, then-found}
@@ -57,6 +58,18 @@ every-answer bs = go (either-answer (answer bs))
         → ((n : ℕ) × (answer bs ≡ Accepted n)) ⊎ ((n : ℕ) × (p : ℕ) × (answer bs ≡ Refused n p) × (1 ≤ n) × (n ≤ 21))
     go (inl w) = inl w
     go (inr w) = let r = refusal-number bs (w .0) (w .1) (w .2) in inr (w .0, w .1, w .2, r .0, r .1)
+
+-- The number 0 is that of a legal token.
+pub zero-exactly : (bs : List ℕ) → Bytes bs → (numberOf (answer bs) ≡ 0) ↔ Legal bs
+unfolding numberOf
+zero-exactly bs b = (
+  (λ e. go (every-answer bs) e),
+  λ l. ap numberOf (legal-answer bs l),
+)
+  where
+    go : ((n : ℕ) × (answer bs ≡ Accepted n)) ⊎ ((n : ℕ) × (p : ℕ) × (answer bs ≡ Refused n p) × (1 ≤ n) × (n ≤ 21)) → numberOf (answer bs) ≡ 0 → Legal bs
+    go (inl w) e = accepted-exactly bs (w .0) b .0 (w .1) .0
+    go (inr w) e = absurd (let z : w .0 ≡ 0 = sym (ap numberOf (w .2)) ∙ e in let m = w .3 in omega arith)
 
 -- ---- reading into a table
 

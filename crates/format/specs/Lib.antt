@@ -7,6 +7,7 @@ pub mod Legal
 pub mod Reading
 pub mod Table
 pub mod Views
+pub mod GivenNumbers
 pub mod Writer
 pub mod Lines
 pub mod Claims

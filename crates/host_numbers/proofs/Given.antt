@@ -3,7 +3,7 @@ use mathlib.Core.Path.{_≡_, ap, _∙_}
 use mathlib.Core.List.{List}
 use Prim.Native.Nat.{ℕ}
 use Rattle.format.specs.declared.Answer.{Answer}
-use Rattle.host_numbers.specs.Numbers.{numberOf, secondOf}
+use Rattle.format.specs.GivenNumbers.{numberOf, secondOf}
 
 -- Its number, what the draft then holds, and its second number.
 pub given : {n s : ℕ} {a w : Answer} {e d : List ℕ} → (n ≡ numberOf a) × (s ≡ secondOf a) → (a ≡ w) × (e ≡ d)

@@ -9,7 +9,7 @@ use denote.Enum.Declared.{tagOf}
 use Rattle.format.specs.declared.Step.{Step}
 use Rattle.format.specs.declared.Step.the-variants.{Record, End, Stopped}
 use Rattle.format.proofs.Step.{the-type}
-use Rattle.host_numbers.specs.Steps.{stepNumber, rowAnswer, stepSecond, rowKind, rowOffset, rowLength, rowOwner, nextOf}
+use Rattle.format.specs.GivenNumbers.{stepNumber, rowAnswer, stepSecond, rowKind, rowOffset, rowLength, rowOwner, nextOf}
 
 -- A step that is no refusal has the number 0 and no place.
 pub no-stop : (s : Step) → OneOf (0 ∷ 1 ∷ []) (tagOf the-type s) → (0 ≡ stepNumber s) × (0 ≡ stepSecond s)

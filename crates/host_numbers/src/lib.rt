@@ -4,7 +4,7 @@ pub mod steps; // steps.rt: a step of the walk
 
 ghost use mathlib.Core.Path.{_≡_};
 ghost use Rattle.format.specs.Views.{whetherThere};
-ghost use Rattle.host_numbers.specs.Numbers.{numberOf, secondOf, offsetOf, lengthOf};
+ghost use Rattle.format.specs.GivenNumbers.{numberOf, secondOf, offsetOf, lengthOf};
 use format::Answer;
 use format::Where;
 

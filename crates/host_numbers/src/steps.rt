@@ -1,6 +1,6 @@
 // A step of the walk as the numbers that a host program in C gets.
 ghost use mathlib.Core.Path.{_≡_};
-ghost use Rattle.host_numbers.specs.Steps.{stepNumber, rowAnswer, stepSecond, rowKind, rowOffset, rowLength, rowOwner, nextOf};
+ghost use Rattle.format.specs.GivenNumbers.{stepNumber, rowAnswer, stepSecond, rowKind, rowOffset, rowLength, rowOwner, nextOf};
 use format::Step;
 
 // The two numbers of a step that is no row: the end, or the refusal.

@@ -1,7 +1,7 @@
 // The start and the finish of a draft for host programs in C.
 ghost use mathlib.Core.Path.{_≡_};
 ghost use Rattle.format.specs.Writer.{writeAnswer, draftAfter, start, finish};
-ghost use Rattle.host_numbers.specs.Numbers.{numberOf, secondOf};
+ghost use Rattle.format.specs.GivenNumbers.{numberOf, secondOf};
 use host_numbers::give;
 
 // Starts a draft.

@@ -8,7 +8,7 @@ ghost use mathlib.Core.Path.{_≡_};
 ghost use Rattle.format.specs.Reading.{answer};
 ghost use Rattle.format.specs.Table.{tableAnswer, tableAfter};
 ghost use Rattle.format.specs.Views.{fieldAt, viewAnswer};
-ghost use Rattle.host_numbers.specs.Numbers.{numberOf, secondOf, offsetOf, lengthOf};
+ghost use Rattle.format.specs.GivenNumbers.{numberOf, secondOf, offsetOf, lengthOf};
 use host_numbers::give;
 use host_numbers::give_where;
 use lookup::field_at;

@@ -3,7 +3,7 @@ ghost use mathlib.Core.Path.{_≡_};
 ghost use mathlib.Core.List.{_∷_, []};
 ghost use Rattle.format.specs.Parts as Parts;
 ghost use Rattle.format.specs.Writer.{writeAnswer, draftAfter, addition, publicKeyFields, ruleFields, informationFields};
-ghost use Rattle.host_numbers.specs.Numbers.{numberOf, secondOf};
+ghost use Rattle.format.specs.GivenNumbers.{numberOf, secondOf};
 use host_numbers::give;
 
 // Adds the public key, section 11.

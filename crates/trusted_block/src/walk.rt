@@ -1,7 +1,7 @@
 // The walk over the rows of a token, and a row by its number, for host programs.
 ghost use mathlib.Core.Path.{_≡_};
 ghost use Rattle.format.specs.Views.{stepAt};
-ghost use Rattle.host_numbers.specs.Steps.{stepNumber, rowAnswer, stepSecond, rowKind, rowOffset, rowLength, rowOwner, nextOf};
+ghost use Rattle.format.specs.GivenNumbers.{stepNumber, rowAnswer, stepSecond, rowKind, rowOffset, rowLength, rowOwner, nextOf};
 ghost use Rattle.walker.specs.Walking.{stepBehind};
 use host_numbers::steps::give_row;
 use host_numbers::steps::give_step;

@@ -1,6 +1,6 @@
 -- The two numbers of each case.
 use mathlib.Core.Path.{sym, ap}
-use Rattle.host_numbers.specs.Numbers.{numberOf, secondOf}
+use Rattle.format.specs.GivenNumbers.{numberOf, secondOf}
 use borrow.Author.Needs.{needs}
 use Rattle.host_numbers.proofs.give.Statement.{statement}
 use Rattle.host_numbers.proofs.give.Tie as tie

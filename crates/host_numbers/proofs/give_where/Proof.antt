@@ -1,7 +1,7 @@
 -- The numbers of each case.
 use mathlib.Core.Path.{sym, ap}
 use Rattle.format.specs.Views.{whetherThere}
-use Rattle.host_numbers.specs.Numbers.{numberOf, secondOf, offsetOf, lengthOf}
+use Rattle.format.specs.GivenNumbers.{numberOf, secondOf, offsetOf, lengthOf}
 use borrow.Author.Needs.{needs}
 use Rattle.host_numbers.proofs.give_where.Statement.{statement}
 use Rattle.host_numbers.proofs.give_where.Tie as tie

@@ -1,7 +1,7 @@
 -- Where the field lies, as numbers.
 use mathlib.Core.Path.{ap, _∙_}
 use Rattle.format.specs.Views.{whetherThere, viewAnswer}
-use Rattle.host_numbers.specs.Numbers.{numberOf, secondOf, offsetOf, lengthOf}
+use Rattle.format.specs.GivenNumbers.{numberOf, secondOf, offsetOf, lengthOf}
 use borrow.Author.Needs.{needs}
 use Rattle.trusted_block.proofs.tb_view.Statement.{statement}
 use Rattle.trusted_block.proofs.tb_view.Tie as tie

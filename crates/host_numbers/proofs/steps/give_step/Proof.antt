@@ -1,6 +1,6 @@
 -- The numbers of each case.
 use mathlib.Core.Path.{sym, ap}
-use Rattle.host_numbers.specs.Steps.{stepNumber, stepSecond, rowKind, rowOffset, rowLength, rowOwner, nextOf}
+use Rattle.format.specs.GivenNumbers.{stepNumber, stepSecond, rowKind, rowOffset, rowLength, rowOwner, nextOf}
 use Rattle.host_numbers.proofs.Stops.{no-row}
 use borrow.Author.Needs.{needs}
 use Rattle.host_numbers.proofs.steps.give_step.Statement.{statement}

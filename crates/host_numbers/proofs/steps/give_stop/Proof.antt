@@ -1,6 +1,6 @@
 -- The number and the place of a refusal, else zeros.
 use mathlib.Core.Path.{sym, ap}
-use Rattle.host_numbers.specs.Steps.{stepNumber, stepSecond}
+use Rattle.format.specs.GivenNumbers.{stepNumber, stepSecond}
 use Rattle.host_numbers.proofs.Stops.{no-stop}
 use borrow.Author.Needs.{needs}
 use Rattle.host_numbers.proofs.steps.give_stop.Statement.{statement}

@@ -1,6 +1,6 @@
 -- The row of a number, as numbers.
 use mathlib.Core.Path.{ap, _∙_}
-use Rattle.host_numbers.specs.Steps.{rowAnswer, stepSecond, rowKind, rowOffset, rowLength, rowOwner, nextOf}
+use Rattle.format.specs.GivenNumbers.{rowAnswer, stepSecond, rowKind, rowOffset, rowLength, rowOwner, nextOf}
 use borrow.Author.Needs.{needs}
 use Rattle.trusted_block.proofs.walk.tb_row.Statement.{statement}
 use Rattle.trusted_block.proofs.walk.tb_row.Tie as tie

@@ -1,6 +1,6 @@
 -- The step of the walk, as numbers.
 use mathlib.Core.Path.{ap, _∙_}
-use Rattle.host_numbers.specs.Steps.{stepNumber, stepSecond, rowKind, rowOffset, rowLength, rowOwner, nextOf}
+use Rattle.format.specs.GivenNumbers.{stepNumber, stepSecond, rowKind, rowOffset, rowLength, rowOwner, nextOf}
 use borrow.Author.Needs.{needs}
 use Rattle.trusted_block.proofs.walk.tb_step.Statement.{statement}
 use Rattle.trusted_block.proofs.walk.tb_step.Tie as tie
