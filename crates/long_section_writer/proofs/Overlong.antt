@@ -16,7 +16,8 @@ use Rattle.format.specs.Writer.{writeAnswer, draftAfter, addition}
 use Rattle.format.specs.declared.Answer.{Answer}
 use Rattle.format.proofs.Accepted.{reading-sound}
 use Rattle.drafts.specs.Adding.{appended, sectionAdded}
-use Rattle.drafts.proofs.Outcomes.{need-failed, same-written}
+use Rattle.format.proofs.Tests.{need-failed}
+use Rattle.drafts.proofs.Outcomes.{same-written}
 use Rattle.drafts.proofs.Additions.{Added, section-made}
 
 -- a draft of 8 bytes or more has no room for a part of more than 3,492
