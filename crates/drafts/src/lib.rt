@@ -1,7 +1,7 @@
 // Internal: an addition to a draft, as bytes. What is added is lent as it is to stand in the draft.
 mod growing; // growing.rt: the draft with a part behind it
 pub mod heads; // heads.rt: how a part's bytes begin
-mod last; // last.rt: the last section of a draft
+mod last; // last.rt: the parts of a draft, passed by their lengths
 
 ghost use mathlib.Core.Path.{_≡_};
 ghost use mathlib.Core.Bool.{true, false};
@@ -56,7 +56,7 @@ fn append_or_fault(draft: &mut [u8], section: usize, part: &[u8]) -> Answer
 }
 
 // Adds the bytes of a section. Where the draft's sections end where it does, and the longer draft reads, the draft reads
-// too: then only the longer one is read.
+// too: then only the longer one is read. Where they do not, the draft does not read, and its reading gives its fault.
 pub fn add_section(draft: &mut [u8], part: &[u8]) -> Answer
     ensures answer { λ r. ⌜ r ≡ writeAnswer (sectionAdded (now (draft .entry)) (now (part .entry))) ⌝ }
     ensures draft { λ _. ⌜ now (draft .exit) ≡ draftAfter (sectionAdded (now (draft .entry)) (now (part .entry))) (now (draft .entry)) ⌝ }
@@ -79,8 +79,8 @@ fn fixed_fields(id: u8) -> usize
     10
 }
 
-// Adds the bytes of a subsection to the section at a place, the last one, where it has the given id. The same is true of
-// its subsections as of the draft's sections.
+// Adds the bytes of a subsection to the section at a place, the last one, where it has the given id. What is said of the
+// draft's sections above is true of this one's subsections too.
 fn add_behind(draft: &mut [u8], id: u8, place: usize, part: &[u8]) -> Answer
     requires { ⌜ (holdsSubsections id ≡ true) × Hold (headerChecks false (now draft)) × LastAt (take (stated (now draft)) (now draft)) 8 place ⌝ }
     ensures answer { λ r. ⌜ r ≡ writeAnswer (subsectionAdded id (now (draft .entry)) (now (part .entry))) ⌝ }
