@@ -1,4 +1,4 @@
-"""A copy of the repository in a folder of its own, in which one mutant at a time is checked."""
+"""A copy of the repository in a folder of its own, in which mutants are checked."""
 import os
 import re
 import shutil
