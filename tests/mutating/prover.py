@@ -1,9 +1,10 @@
-"""A copy of the repository in a folder of its own, in which one mutant at a time is checked."""
+"""A copy of the repository in a folder of its own, in which mutants are checked."""
 import os
 import re
 import shutil
 import signal
 import subprocess
+import time
 
 LATE = 124
 LEFT_OUT = (".git", "__pycache__", "must-fail")
@@ -70,7 +71,8 @@ class Copy:
 
     def run(self, words, where=None, env=None, seconds=900):
         """A command's exit status and what it printed, at low priority; LATE where it does not end in time."""
-        ran = subprocess.Popen(["nice", "-n", "10"] + words, cwd=where or self.folder, stdin=subprocess.DEVNULL, start_new_session=True,
+        start = time.monotonic()
+        ran = subprocess.Popen(["nice", "-n", "19"] + words, cwd=where or self.folder, stdin=subprocess.DEVNULL, start_new_session=True,
                                stdout=subprocess.PIPE, stderr=subprocess.STDOUT, env={**os.environ, "RT_JOBS": "1", **(env or {})})
         try:
             text, status = ran.communicate(timeout=seconds)[0].decode("utf-8", "replace"), ran.returncode
@@ -78,7 +80,7 @@ class Copy:
             os.killpg(ran.pid, signal.SIGKILL)  # the command and what it started, no other process
             ran.communicate()
             text, status = f"no end within {seconds} s", LATE
-        self.log.write(f"$ {' '.join(words)[:200]}\n{text}\n")
+        self.log.write(f"$ {' '.join(words)[:200]}  # {time.monotonic() - start:.1f} s\n{text}\n")
         return status, text
 
     def check_words(self, crate):
@@ -127,12 +129,29 @@ class Copy:
             return f.read()
 
 
+def all_errors(text):
+    """File, line and words of each error."""
+    return [(m.group(2), m.group(3), " ".join(m.group(4).split())) for m in ERROR.finditer(text)]
+
+
 def errors_in(text):
-    """File, line and words of the errors that do not only follow from another, at least one."""
-    errors = [(m.group(2), m.group(3), " ".join(m.group(4).split())) for m in ERROR.finditer(text)]
+    """The errors that do not only follow from another, at least one."""
+    errors = all_errors(text)
     notes = [m.groups()[1:] for m in NOTE.finditer(text)]
     own = [e for e in errors if FOLLOWS not in e[2]] or notes or errors
     return own or [("", "", (text.strip().splitlines() or ["(nothing said)"])[-1])]
+
+
+def shown_error(errors):
+    """The first of the errors, in few words."""
+    file, line, words = errors[0]
+    return f"{file.split('/', 2)[-1]}:{line}: {words[:140]}"
+
+
+def refusal(by, errors):
+    """A code mutant is refused by the proof of a function, with these errors."""
+    shape = any(SHAPE.search(e[2]) for e in errors)
+    return Verdict("refused by shape" if shape else "refused by a fact", by, shown_error(errors))
 
 
 def verdict_of_code(status, text):
@@ -140,15 +159,12 @@ def verdict_of_code(status, text):
     if status == 0:
         return Verdict("SURVIVED")
     errors = errors_in(text)
-    file, line, words = errors[0]
-    shown = f"{file.split('/', 2)[-1]}:{line}: {words[:140]}"
     if status != 1:
-        return Verdict("could not tell", error=shown)
+        return Verdict("could not tell", error=shown_error(errors))
     if "logic=not-proved" not in text:
-        return Verdict("stillborn", error=shown)
+        return Verdict("stillborn", error=shown_error(errors))
     function = re.search(r"^fn (\S+): (?:not proved$|no proof)", text, re.M)
-    by = "by shape" if any(SHAPE.search(e[2]) for e in errors) else "by a fact"
-    return Verdict("refused " + by, function.group(1) if function else file, shown)
+    return refusal(function.group(1) if function else errors[0][0], errors)
 
 
 def verdict_of_definition(status, text, path, stage):
