@@ -36,7 +36,7 @@ pub(crate) fn last_part(s: &[u8], first: usize) -> Last
         }
         last = p;
         if n == 20 {
-            // A bare rule. A step by a known number does not wait for the bytes: long drafts are passed twice as fast.
+            // A bare rule: a step by a known number need not wait for the bytes. docs/SPEED.md has what it gains.
             p += 20;
             continue;
         }
