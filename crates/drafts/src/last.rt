@@ -35,11 +35,6 @@ pub(crate) fn last_part(s: &[u8], first: usize) -> Last
             return Last::Broken;
         }
         last = p;
-        if n == 20 {
-            // A bare rule: a step by a known number need not wait for the bytes. docs/SPEED.md has what it gains.
-            p += 20;
-            continue;
-        }
         p += n;
     }
     if p == first {
