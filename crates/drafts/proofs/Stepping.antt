@@ -10,8 +10,8 @@ use borrow.Author.Tests.{eq-eqb, ne-eqb}
 use Rattle.format.specs.Reading.{stated}
 use Rattle.format.proofs.Grouping.{is-true, is-false}
 use Rattle.drafts.specs.Adding.{fixedFields}
-use Rattle.drafts.specs.Tiling.{TiledTo, here, Tiled, LastAt}
-use Rattle.drafts.proofs.Tiling.{tiled-more, tiled-on, tiled-first}
+use Rattle.drafts.specs.Tiling.{TiledTo, here, Tiled, Twenties, LastAt}
+use Rattle.drafts.proofs.Tiling.{tiled-more, tiled-through, tiled-on, tiled-first}
 
 -- The parts from `first` to p are passed, the last of them standing at `last`.
 pub record Stepped (s : List ℕ) (first last p : ℕ) : Type 0 where
@@ -24,19 +24,49 @@ pub record Stepped (s : List ℕ) (first last p : ℕ) : Type 0 where
 pub stepped-none : (s : List ℕ) (first : ℕ) → first ≤ length s → Stepped s first first first
 stepped-none s first h = record { front = omega arith; inside = h; tiled = here; from = λ q. absurd (omega arith) }
 
--- One part more.
-pub stepped-more : {s : List ℕ} {first last p n : ℕ} → Stepped s first last p → p < length s → n ≡ stated (drop p s) → 4 ≤ n → n ≤ length s - p
-    → Stepped s first p (p + n)
-stepped-more {s} {first} {last} {p} {n} w h e a b =
+-- A part passed, to which one comes from the first.
+step : {s : List ℕ} {first p n : ℕ} → first ≤ p → TiledTo (drop p s) (drop first s) → p < length s → n ≡ stated (drop p s) → 4 ≤ n
+    → n ≤ length s - p → Stepped s first p (p + n)
+step {s} {first} {p} {n} f t h e a b =
     let l = length-drop p s in
-    let f = w .front in
     record {
       front = omega arith;
       inside = omega arith;
       tiled = subst (λ (y : List ℕ). TiledTo y (drop first s)) (ap (λ (m : ℕ). drop m (drop p s)) (sym e) ∙ drop-drop n p s)
-          (tiled-more (w .tiled) (omega arith) (omega arith));
-      from = λ q. (f, omega arith, w .tiled, omega arith);
+          (tiled-more t (omega arith) (omega arith));
+      from = λ q. (f, omega arith, t, omega arith);
     }
+
+-- One part more.
+pub stepped-more : {s : List ℕ} {first last p n : ℕ} → Stepped s first last p → p < length s → n ≡ stated (drop p s) → 4 ≤ n → n ≤ length s - p
+    → Stepped s first p (p + n)
+stepped-more w = step (w .front) (w .tiled)
+
+-- A part of 20 bytes,
+pub twenty-first : {s : List ℕ} {p n : ℕ} → n ≡ stated (drop p s) → n ≡ 20 → p < length s → n ≤ length s - p → Twenties s p p
+twenty-first e t h k = record { front = omega arith; inside = omega arith; states = sym e ∙ t; tiled = here }
+
+-- one more,
+pub twenty-more : {s : List ℕ} {p q : ℕ} → Twenties s p q → q + 40 ≤ length s → stated (drop (q + 20) s) ≡ 20 → Twenties s p (q + 20)
+twenty-more {s} {p} {q} w h e =
+    let l = length-drop q s in
+    let f = w .front in
+    let n = w .states in
+    record {
+      front = omega arith;
+      inside = omega arith;
+      states = e;
+      tiled = subst (λ (y : List ℕ). TiledTo y (drop p s)) (ap (λ (m : ℕ). drop m (drop q s)) n ∙ drop-drop 20 q s)
+          (tiled-more (w .tiled) (omega arith) (omega arith));
+    }
+
+-- and all of them passed.
+pub stepped-twenties : {s : List ℕ} {first last p q : ℕ} → Stepped s first last p → Twenties s p q → Stepped s first q (q + 20)
+stepped-twenties {s} {first} {last} {p} {q} w t =
+    let f = w .front in
+    let g = t .front in
+    let i = t .inside in
+    step (omega arith) (tiled-through (w .tiled) (t .tiled)) (omega arith) (sym (t .states)) (omega arith) (omega arith)
 
 -- A part that does not end within the bytes: they are not tiled.
 pub stepped-broken : {s : List ℕ} {first last p : ℕ} → Stepped s first last p → p < length s

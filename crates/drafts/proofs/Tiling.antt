@@ -69,6 +69,11 @@ pub tiled-more : {z r : List ℕ} → TiledTo z r → 4 ≤ stated z → stated 
 tiled-more here a b = next a b here
 tiled-more (next c d t) a b = next c d (tiled-more t a b)
 
+-- Steps behind steps.
+pub tiled-through : {z y r : List ℕ} → TiledTo y r → TiledTo z y → TiledTo z r
+tiled-through here u = u
+tiled-through (next a b t) u = next a b (tiled-through t u)
+
 -- Where all is tiled, so is what is left after some steps.
 pub tiled-on : {z r : List ℕ} → TiledTo z r → Tiled r → Tiled z
 tiled-on here u = u

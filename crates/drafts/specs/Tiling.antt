@@ -19,6 +19,13 @@ pub data TiledTo (z : List ℕ) : List ℕ → Type 0 where
 abbrev pub Tiled : List ℕ → Type 0
 Tiled r = TiledTo [] r
 
+-- the part of s at q has 20 bytes, and one comes to it from p
+pub record Twenties (s : List ℕ) (p q : ℕ) : Type 0 where
+  pub front : p ≤ q
+  pub inside : q + 20 ≤ length s
+  pub states : stated (drop q s) ≡ 20
+  pub tiled : TiledTo (drop q s) (drop p s)
+
 -- the last part of s from the place first on begins at p
 pub record LastAt (s : List ℕ) (first p : ℕ) : Type 0 where
   pub front : first ≤ p

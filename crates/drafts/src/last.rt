@@ -4,7 +4,7 @@ ghost use mathlib.Core.Bool.{false};
 ghost use Prim.Native.Nat.{_≤_};
 ghost use lib.ListN.{length, take};
 ghost use Rattle.format.specs.Reading.{stated};
-ghost use Rattle.drafts.specs.Tiling.{LastOf, LastSection};
+ghost use Rattle.drafts.specs.Tiling.{Twenties, LastOf, LastSection};
 use contents::header::header;
 use fields::two;
 
@@ -14,6 +14,22 @@ pub(crate) enum Last {
     At(usize),
     Empty,
     Broken,
+}
+
+// The last of the parts of 20 bytes that follow each other from the place p on. Such are the rules without subsections, of
+// which a long draft has many: a step by a known number need not wait for the bytes that state it.
+fn last_twenty(s: &[u8], p: usize) -> usize
+    requires { ⌜ Twenties (now s) p p × (length (now s) ≤ 3500) ⌝ }
+    ensures { λ r. ⌜ Twenties (now (s .entry)) p r ⌝ }
+{
+    let mut q = p;
+    while q + 40 <= s.len() {
+        if two(s, q + 22) != 20 {
+            return q;
+        }
+        q += 20;
+    }
+    q
 }
 
 // The last of the parts that follow each other from the place first to the end.
@@ -33,6 +49,11 @@ pub(crate) fn last_part(s: &[u8], first: usize) -> Last
         }
         if s.len() - p < n {
             return Last::Broken;
+        }
+        if n == 20 {
+            last = last_twenty(s, p);
+            p = last + 20;
+            continue;
         }
         last = p;
         p += n;

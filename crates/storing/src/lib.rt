@@ -4,7 +4,8 @@ ghost use mathlib.Core.Path.{_≡_};
 ghost use mathlib.Core.List.{_∷_, []};
 ghost use Prim.Native.Nat.{_+_, _≤_, _<_};
 ghost use lib.ListN.{length};
-ghost use Rattle.format.specs.Bytes.{bigEndian};
+ghost use lib.Seq.{sets};
+ghost use Rattle.format.specs.Bytes.{bytesAt, bigEndian};
 ghost use Rattle.storing.specs.Storing.{Stored};
 
 // The bytes of a text, from the place `at` on.
@@ -18,6 +19,21 @@ pub fn put(line: &mut [u8], at: usize, text: &[u8]) -> usize
         i += 1;
     }
     at + i
+}
+
+// Exchanges the bytes of a text with those of the line from the place `at` on.
+pub fn exchange(line: &mut [u8], at: usize, text: &mut [u8])
+    requires { ⌜ at + length (now text) ≤ length (now line) ⌝ }
+    ensures line { λ _. ⌜ now (line .exit) ≡ sets (now (line .entry)) at (now (text .entry)) ⌝ }
+    ensures text { λ _. ⌜ now (text .exit) ≡ bytesAt (now (line .entry)) at (length (now (text .entry))) ⌝ }
+{
+    let mut i = 0;
+    while i < text.len() {
+        let old = line[at + i];
+        line[at + i] = text[i];
+        text[i] = old;
+        i += 1;
+    }
 }
 
 // A number in two bytes, the higher first.

@@ -5,7 +5,7 @@ use native.Mathlib.Omega.{arith}
 use lib.ListN.{length, drop}
 use Rattle.format.specs.Reading.{stated}
 use Rattle.sections.proofs.Laws.{number-at}
-use Rattle.drafts.proofs.Stepping.{Stepped, stepped-none, stepped-more, stepped-broken, stepped-all}
+use Rattle.drafts.proofs.Stepping.{Stepped, twenty-first, stepped-none, stepped-more, stepped-twenties, stepped-broken, stepped-all}
 use Rattle.drafts.proofs.last.last_part.Statement.{statement}
 use Rattle.drafts.proofs.last.last_part.Tie as tie
 
@@ -54,41 +54,63 @@ returns-3 c =
     number-at (w .before .before .args .s .now) (w .loop .p) 2 2 (c .before .before .two .ensures .0) in
     stepped-broken (w .loop .inv) (c .before .before .before .before .loop-test .taken) (λ a b. let h = c .if3 .taken in omega arith)
 
+last-twenty-requires : tie.Need-last-twenty-requires Inv-loop μ-loop
+last-twenty-requires c κs =
+    let w = c .before .before .before .before .before .before in
+    let h = c .before .if3 .left in
+    (twenty-first (number-at (w .before .before .args .s .now) (w .loop .p) 2 2 (c .before .before .before .two .ensures .0)) (c .if4 .taken)
+    (c .before .before .before .before .before .loop-test .taken) (omega arith), w .before .before .pre .1)
+
 add-p : tie.Need-add-p Inv-loop μ-loop
 add-p c =
-    let w = c .before .before .before .before .before in
-    let i = w .loop .inv .inside in
-    let h = c .if3 .left in
-    let m = w .before .before .pre .1 in
+    let t = c .last-twenty .ensures .inside in
+    let m = c .before .before .before .before .before .before .before .before .before .pre .1 in
     omega arith
 
 loop-less : tie.Need-loop-less Inv-loop μ-loop
 loop-less c =
-    let w = c .before .before .before .before .before in
-    let i = w .loop .inv .inside in
-    let h = c .if3 .left in
-    let a = c .before .if2 .left in
-    let l = c .before .before .before .before .loop-test .taken in
+    let t = c .last-twenty .ensures .inside in
+    let f = c .last-twenty .ensures .front in
     omega arith
 
 loop-again : tie.Need-loop-again Inv-loop μ-loop
-loop-again c =
-    let w = c .before .before .before .before .before in
-    let h = c .if3 .left in
-    let a = c .before .if2 .left in
-    stepped-more (w .loop .inv) (c .before .before .before .before .loop-test .taken)
-    (number-at (w .before .before .args .s .now) (w .loop .p) 2 2 (c .before .before .two .ensures .0)) (omega arith) (omega arith)
+loop-again c = stepped-twenties (c .before .before .before .before .before .before .before .loop .inv) (c .last-twenty .ensures)
+
+add-p-2 : tie.Need-add-p-2 Inv-loop μ-loop
+add-p-2 c =
+    let w = c .before .before .before .before .before .before in
+    let i = w .loop .inv .inside in
+    let h = c .before .if3 .left in
+    let m = w .before .before .pre .1 in
+    omega arith
+
+loop-less-2 : tie.Need-loop-less-2 Inv-loop μ-loop
+loop-less-2 c =
+    let w = c .before .before .before .before .before .before in
+    let i = w .loop .inv .inside in
+    let h = c .before .if3 .left in
+    let a = c .before .before .if2 .left in
+    let l = c .before .before .before .before .before .loop-test .taken in
+    omega arith
+
+loop-again-2 : tie.Need-loop-again-2 Inv-loop μ-loop
+loop-again-2 c =
+    let w = c .before .before .before .before .before .before in
+    let h = c .before .if3 .left in
+    let a = c .before .before .if2 .left in
+    stepped-more (w .loop .inv) (c .before .before .before .before .before .loop-test .taken)
+    (number-at (w .before .before .args .s .now) (w .loop .p) 2 2 (c .before .before .before .two .ensures .0)) (omega arith) (omega arith)
 
 returns-4 : tie.Need-returns-4 Inv-loop μ-loop
 returns-4 c =
     let w = c .before .before .loop .inv in
     let i = w .inside in
-    let e = c .if4 .taken in
+    let e = c .if5 .taken in
     let h = c .before .loop-test .left in
     omega arith
 
 returns-5 : tie.Need-returns-5 Inv-loop μ-loop
-returns-5 c = stepped-all (c .before .before .loop .inv) (c .before .loop-test .left) (c .if4 .left)
+returns-5 c = stepped-all (c .before .before .loop .inv) (c .before .loop-test .left) (c .if5 .left)
 
 pub last-part-spec : {M : Type 1} → statement M
 last-part-spec =
@@ -104,8 +126,12 @@ last-part-spec =
     returns-2
     sub-if3
     returns-3
+    last-twenty-requires
     add-p
     loop-less
     loop-again
+    add-p-2
+    loop-less-2
+    loop-again-2
     returns-4
     returns-5)
