@@ -2,7 +2,7 @@
 use mathlib.Core.Path.{_≡_, refl, sym, ap, _∙_, subst}
 use mathlib.Core.Bool.{Bool, true, false, _||_}
 use mathlib.Core.List.{List, [], _∷_}
-use mathlib.Core.Logic.{_⊎_, ⊎-elim}
+use mathlib.Core.Logic.{_⊎_, inr, ⊎-elim}
 use Prim.Native.Nat.{ℕ, _+_, _≤_, _<_}
 use native.Mathlib.Omega.{arith}
 use denote.Enum.Declared.{tagOf}
@@ -191,7 +191,7 @@ last-standing d o h la =
     let four = v .four in
     let states = v .states in
     let same = v .same in
-    record { least = k .least; most = k .most; there = k .within; head = omega arith; ends = omega arith }
+    record { least = k .least; most = k .most; there = k .within; head = omega arith; ends = omega arith; apart = inr (la .front) }
 
 -- It begins before the draft's end, which is at most 3,500.
 pub last-below : (d : List ℕ) (o : ℕ) → Hold (headerChecks false d) → LastAt (take (stated d) d) 8 o → o < stated d

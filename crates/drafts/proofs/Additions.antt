@@ -30,6 +30,7 @@ use Rattle.format.proofs.Additions.{any-draft}
 use Rattle.drafts.specs.Adding.{lastPlace, grown, appended, unfit, sectionAdded, subsectionAdded}
 use Rattle.drafts.proofs.Sections.{id-small, stands-at, place-more}
 use Rattle.drafts.proofs.Outcomes.{same-written}
+use Rattle.drafts.proofs.Restating.{restate-over}
 use Rattle.drafts.proofs.Joining.{section-joins, sub-joins-last, sub-alone}
 
 -- ---- outcomes
@@ -73,14 +74,6 @@ made k fs w t e l =
     let n : length w ≡ size (record { kind = k; fields = fs }) = ap length e ∙ size-any (layout k) t 0 fs in
     (n, e ∙ ap (λ (u : ℕ). write u (layout k) fs) (l ∙ n))
 
--- A length stated twice is stated once.
-pub restate-twice : (n : ℕ) (bs : List ℕ) → restate 0 n (restate 0 n bs) ≡ restate 0 n bs
-restate-twice n [] = refl
-restate-twice n (a ∷ []) = refl
-restate-twice n (a ∷ b ∷ []) = refl
-restate-twice n (a ∷ b ∷ c ∷ []) = refl
-restate-twice n (a ∷ b ∷ c ∷ e ∷ bs) = refl
-
 -- The same bytes behind 23.
 same-appended : (d w g : List ℕ) (o n : ℕ) → length w ≡ n → grown d o w ≡ g
     → need (leb (stated d + n) 3500 && leb (stated d + n) (length d)) (fault 23 (stated d) 0) (andThen (reading false g) (λ ts. found g))
@@ -100,7 +93,7 @@ section-grown d ss p w b e s l m =
     let st = draft-header (idOf d) ps d x .1 in
     let front = draft-front (idOf d) ps d x in
     ap₂ (λ (n : ℕ) (y : List ℕ). restate 0 (stated d + n) (restate 0 (stated d + n) (take (stated d) d)) ++ y) l m
-    ∙ ap (λ (y : List ℕ). y ++ write (size p) (layout (p .kind)) (p .fields)) (restate-twice (stated d + size p) (take (stated d) d))
+    ∙ ap (λ (y : List ℕ). y ++ write (size p) (layout (p .kind)) (p .fields)) (restate-over (stated d + size p) (stated d + size p) (take (stated d) d))
     ∙ ap₂ (λ (n : ℕ) (y : List ℕ). restate 0 (n + size p) y ++ write (size p) (layout (p .kind)) (p .fields)) st front
     ∙ sym (section-added (idOf d) ps p s)
 

@@ -2,6 +2,7 @@
 use mathlib.Core.Path.{_≡_, refl, sym, ap, ap₂, _∙_}
 use mathlib.Core.Bool.{false, _&&_}
 use mathlib.Core.List.{List}
+use mathlib.Core.Logic.{inl}
 use Prim.Native.Nat.{ℕ, _+_, _<_, _≤_}
 use native.Mathlib.Nat.{add-zero}
 use native.Mathlib.Omega.{arith}
@@ -34,7 +35,7 @@ header-stands d r =
     let c = tests-passed 0 (headerChecks false d) _ (r .0) (r .1) .0 in
     let a = allowed false d (leb-true 8 (length d) (c .0)) (c .1 .1 .1 .0) in
     let e = a .eight in
-    record { least = e; most = a .most; there = a .ends; head = omega arith; ends = omega arith }
+    record { least = e; most = a .most; there = a .ends; head = omega arith; ends = omega arith; apart = inl refl }
 
 -- The draft's own fault is the answer of every call, and the draft is as it was.
 pub fault-first : {n p : ℕ} (d : List ℕ) (next : List Section → Outcome (List ℕ)) → Refused n p ≡ told rowCount (reading false d)

@@ -28,8 +28,7 @@ use Rattle.drafts.proofs.Tiling.{States, laid, passed, passed-then, cut
 use Rattle.drafts.proofs.Sections.{parts-join}
 use Rattle.drafts.proofs.LaidSections.{sectionBytes, sections-laid, draft-laid}
 use Rattle.drafts.proofs.Longer.{restate-long, grown-long}
-use Rattle.drafts.proofs.Restating.{behind-restated, restate-id, restate-stated, restate-bytes, id-taken}
-use Rattle.drafts.proofs.Additions.{restate-twice}
+use Rattle.drafts.proofs.Restating.{behind-restated, restate-id, restate-stated, restate-over, restate-bytes, id-taken}
 use Rattle.drafts.proofs.Whole.{header-standing}
 
 -- ---- the first parts of a choice
@@ -98,7 +97,7 @@ module _ (d w : List ℕ) (ts : List Section) (b : Bytes d) (c : Bytes w) (h : H
       let s = header-standing d h in
       let ld = length-take-le (stated d) d (k .within) in
       let least = k .least in
-      let r = longer-read i n (grown d 0 w) D w ts (ap (λ (y : List ℕ). y ++ w) (restate-twice n D)) (omega arith) (id-taken d (stated d) (omega arith))
+      let r = longer-read i n (grown d 0 w) D w ts (ap (λ (y : List ℕ). y ++ w) (restate-over n n D)) (omega arith) (id-taken d (stated d) (omega arith))
       (grown-long d 0 w s) m (grown-bytes d 0 w b c) e in
       let all : drop 8 D ≡ passed t = passed-then t ∙ append-nil (passed t) in
       let x = cut-at sectionBytes t ts w (r .states) (ap (λ (y : List ℕ). y ++ w) (sym all) ∙ r .body) in

@@ -37,16 +37,6 @@ stated-at d o = ap (λ (y : List ℕ). number (take 2 y)) (sym (drop-drop 2 o d)
 
 -- ---- the longer draft
 
--- A text stored where the first bytes end, and what is then in front of its end.
-pub stored-behind : {last : List ℕ} {p : ℕ} (a b w : List ℕ) → length a ≡ p → length w ≤ length b → last ≡ sets (a ++ b) p w
-    → take (p + length w) last ≡ a ++ w
-stored-behind {last} {p} a b w e h s =
-    let n = length-append a b in
-    let m = length-append a w in
-    let r : last ≡ take p (a ++ b) ++ w ++ drop (p + length w) (a ++ b) = s ∙ sets-eq w (a ++ b) p (omega arith) in
-    ap (take (p + length w)) (r ∙ ap (λ (y : List ℕ). y ++ w ++ drop (p + length w) (a ++ b)) (take-at a b p e))
-    ∙ take-at (a ++ w) (drop (p + length w) (a ++ b)) (p + length w) (omega arith)
-
 -- The longer draft has the bytes of both.
 pub grown-long : (d : List ℕ) (o : ℕ) (w : List ℕ) → Standing d o → length (grown d o w) ≡ stated d + length w
 grown-long d o w s =
@@ -57,35 +47,3 @@ grown-long d o w s =
     let l₂ = restate-long o (stated (drop o d) + length w) b in
     let l₃ = length-append (restate o (stated (drop o d) + length w) b) w in
     omega arith
-
--- The draft's bytes, the two lengths and the part, stored one after the other, give the longer draft.
-pub grown-stored : {z first second third last : List ℕ} {n m p : ℕ} (d : List ℕ) (o : ℕ) (w : List ℕ) → Standing d o
-    → stated d + length w ≤ length z
-    → n ≡ stated d → m ≡ stated (drop o d)
-    → Stored z 0 (take n d) first p
-    → second ≡ restate 0 (n + length w) first
-    → third ≡ restate o (m + length w) second
-    → last ≡ sets third p w
-    → take (stated d + length w) last ≡ grown d o w
-grown-stored {z} {first} {second} {third} {last} {n} {m} {p} d o w st room en em s e f t =
-    let a : List ℕ = take n d in
-    let b : List ℕ = drop (length a) z in
-    let x : List ℕ = restate o (m + length w) (restate 0 (n + length w) a) in
-    let k₁ = st .least in
-    let k₂ = st .there in
-    let k₃ = st .head in
-    let la : length a ≡ n = length-take-le n d (omega arith) in
-    let lb : length b ≡ length z - length a = length-drop (length a) z in
-    let lx : length (restate 0 (n + length w) a) ≡ length a = restate-long 0 (n + length w) a in
-    let ly : length x ≡ length (restate 0 (n + length w) a) = restate-long o (m + length w) (restate 0 (n + length w) a) in
-    let pl = s .place in
-    let r₁ : first ≡ a ++ b = s .bytes ∙ sets-front z a (omega arith) in
-    let r₂ : second ≡ restate 0 (n + length w) a ++ b =
-    e ∙ ap (restate 0 (n + length w)) r₁ ∙ restate-front 0 (n + length w) a b (omega arith) in
-    let r₃ : third ≡ x ++ b =
-    f ∙ ap (restate o (m + length w)) r₂ ∙ restate-front o (m + length w) (restate 0 (n + length w) a) b (omega arith) in
-    let u : last ≡ sets (x ++ b) p w = t ∙ ap (λ (y : List ℕ). sets y p w) r₃ in
-    let pn : stated d + length w ≡ p + length w = omega arith in
-    ap (λ (j : ℕ). take j last) pn
-    ∙ stored-behind x b w (omega arith) (omega arith) u
-    ∙ ap₂ (λ (i j : ℕ). restate o (j + length w) (restate 0 (i + length w) (take i d)) ++ w) en em

@@ -6,15 +6,14 @@ use Prim.Native.Nat.{ℕ, _+_, _<_, _≤_}
 use native.Mathlib.Omega.{arith}
 use lib.Dec.{leb}
 use lib.ListN.{length, drop}
-use lib.Seq.{sets}
 use borrow.Author.Tests.{le-leb, lt-leb}
 use Rattle.format.specs.Reading.{Fault, Outcome, refused, found, fault, andThen, told, stated, reading, rowCount}
 use Rattle.format.specs.Writer.{writeAnswer, draftAfter}
 use Rattle.format.specs.declared.Answer.{Answer}
 use Rattle.format.specs.declared.Answer.the-variants.{Accepted, Refused}
 use Rattle.format.proofs.Tests.{need-passed, need-failed, then-found, then-refused}
-use Rattle.storing.proofs.Stores.{sets-front}
-use Rattle.drafts.specs.Adding.{grown, appended}
+use Rattle.drafts.specs.Adding.{Standing, grown, appended}
+use Rattle.drafts.proofs.Longer.{grown-long}
 
 -- ---- the answer taken apart
 
@@ -104,13 +103,13 @@ longer-refused {n} {p} {bs} d o w h k e a =
     (record { cause = r .cause; is = has-room d o w h k ∙ then-refused _ s; number = r .number; place = r .place })
 
 -- and where it is accepted it stands in the draft.
-pub longer-found : {n m : ℕ} {bs new : List ℕ} (d : List ℕ) (o : ℕ) (w : List ℕ) → stated d + length w ≤ 3500
+pub longer-found : {n m : ℕ} {bs new : List ℕ} (d : List ℕ) (o : ℕ) (w : List ℕ) → Standing d o → stated d + length w ≤ 3500
     → stated d + length w ≤ length d → bs ≡ grown d o w → Accepted m ≡ told rowCount (reading false bs)
-    → n ≡ length bs → length bs ≤ length d → new ≡ sets d 0 bs
+    → n ≡ stated d + length w → new ≡ grown d o w ++ drop (stated d + length w) d
     → (Accepted n ≡ writeAnswer (appended d o w)) × (new ≡ draftAfter (appended d o w) d)
-longer-found {n} {m} {bs} {new} d o w h k e a l i s =
+longer-found {n} {m} {bs} {new} d o w s h k e a l t =
     let r = told-found rowCount (reading false bs) a in
     let g : reading false (grown d o w) ≡ found (r .0) = ap (reading false) (sym e) ∙ r .1 in
-    let b : appended d o w ≡ found bs = has-room d o w h k ∙ then-found _ g ∙ ap found (sym e) in
-    let f = found-written (appended d o w) d bs b l in
-    (f .0, s ∙ sets-front d bs i ∙ f .1)
+    let long : stated d + length w ≡ length (grown d o w) = sym (grown-long d o w s) in
+    let f = found-written (appended d o w) d (grown d o w) (has-room d o w h k ∙ then-found _ g) (l ∙ long) in
+    (f .0, t ∙ ap (λ (j : ℕ). grown d o w ++ drop j d) long ∙ f .1)

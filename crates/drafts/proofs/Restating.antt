@@ -40,6 +40,14 @@ restate-stated n (a ∷ b ∷ []) y h k = absurd (omega arith)
 restate-stated n (a ∷ b ∷ c ∷ []) y h k = absurd (omega arith)
 restate-stated n (a ∷ b ∷ c ∷ e ∷ bs) y h k = omega arith
 
+-- Of two lengths stated one after the other the second holds.
+pub restate-over : (m n : ℕ) (bs : List ℕ) → restate 0 n (restate 0 m bs) ≡ restate 0 n bs
+restate-over m n [] = refl
+restate-over m n (a ∷ []) = refl
+restate-over m n (a ∷ b ∷ []) = refl
+restate-over m n (a ∷ b ∷ c ∷ []) = refl
+restate-over m n (a ∷ b ∷ c ∷ e ∷ bs) = refl
+
 -- The old length put back gives the old bytes.
 pub restate-back : (m n : ℕ) (bs : List ℕ) → Bytes bs → 4 ≤ length bs → stated bs ≡ n → restate 0 n (restate 0 m bs) ≡ bs
 unfolding number bytesAt

@@ -3,6 +3,7 @@
 use mathlib.Core.Path.{_≡_, refl, sym, ap, ap₂, _∙_, subst}
 use mathlib.Core.Bool.{Bool, true, false, not, _||_}
 use mathlib.Core.List.{List, [], _∷_, _++_, append-assoc, append-nil}
+use mathlib.Core.Logic.{inr}
 use Prim.Native.Nat.{ℕ, _+_, _-_, _≤_, _<_}
 use native.Mathlib.Omega.{arith}
 use lib.Dec.{eqb}
@@ -248,7 +249,7 @@ sub-front d w ts o i b c h most la id hs fx u e =
     let same = v .same in
     let ld = length-take-le (stated d) d within in
     let lo = length-take-le o D (omega arith) in
-    let standing : Standing d o = record { least = k .least; most = k .most; there = within; head = omega arith; ends = omega arith } in
+    let standing : Standing d o = record { least = k .least; most = k .most; there = within; head = omega arith; ends = omega arith; apart = inr front } in
     let r = longer-read (idOf d) (stated d + length w) (grown d o w) (take o D) (restate 0 m z ++ w) ts
     (grown-cut d w o front (omega arith) within) (omega arith)
     (id-taken D o (omega arith) ∙ id-taken d (stated d) (omega arith)) (grown-long d o w standing) most (grown-bytes d o w b c) e in

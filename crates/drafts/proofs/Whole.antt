@@ -2,6 +2,7 @@
 use mathlib.Core.Path.{_≡_, refl, sym, _∙_}
 use mathlib.Core.Bool.{false}
 use mathlib.Core.List.{List}
+use mathlib.Core.Logic.{inl}
 use Prim.Native.Nat.{ℕ}
 use native.Mathlib.Omega.{arith}
 use lib.ListN.{take}
@@ -34,7 +35,7 @@ pub header-standing : (d : List ℕ) → Hold (headerChecks false d) → Standin
 header-standing d h =
     let l = lengths false d h in
     let a = l .least in
-    record { least = a; most = l .most; there = l .within; head = omega arith; ends = omega arith }
+    record { least = a; most = l .most; there = l .within; head = omega arith; ends = omega arith; apart = inl refl }
 
 -- The last section of a draft, from the last part behind its header.
 pub section-last : {h : ℕ} (d : List ℕ) (r : Last) → Bytes d → h ≡ firstRefusal (headerChecks false d) → h ≡ 0

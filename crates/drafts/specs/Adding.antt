@@ -2,6 +2,7 @@
 use mathlib.Core.Path.{_≡_}
 use mathlib.Core.Bool.{Bool, true, false, _&&_, _||_}
 use mathlib.Core.List.{List, [], _∷_, _++_}
+use mathlib.Core.Logic.{_⊎_}
 use Prim.Native.Nat.{ℕ, _+_, _≤_}
 use lib.Dec.{eqb, leb}
 use lib.ListN.{length, take, drop}
@@ -66,6 +67,7 @@ pub record Standing (d : List ℕ) (o : ℕ) : Type 0 where
   pub there : stated d ≤ length d
   pub head : o + 4 ≤ stated d
   pub ends : o + stated (drop o d) ≤ stated d
+  pub apart : (o ≡ 0) ⊎ (8 ≤ o)
 
 -- the bytes read as a draft
 abbrev pub Reads : List ℕ → Type 0

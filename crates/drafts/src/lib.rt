@@ -43,7 +43,7 @@ pub fn not_fitting(draft: &[u8]) -> Answer
 }
 
 // Puts a part behind the draft, whose own fault comes before any other refusal.
-fn append_or_fault(draft: &mut [u8], section: usize, part: &[u8]) -> Answer
+fn append_or_fault(draft: &mut [u8], section: usize, part: &mut [u8]) -> Answer
     requires { ⌜ Standing (now draft) section ⌝ }
     ensures answer { λ r. ⌜ r ≡ writeAnswer (ownFirst (now (draft .entry)) (appended (now (draft .entry)) section (now (part .entry)))) ⌝ }
     ensures draft { λ _. ⌜ now (draft .exit) ≡ draftAfter (ownFirst (now (draft .entry)) (appended (now (draft .entry)) section (now (part .entry)))) (now (draft .entry)) ⌝ }
@@ -57,7 +57,7 @@ fn append_or_fault(draft: &mut [u8], section: usize, part: &[u8]) -> Answer
 
 // Adds the bytes of a section. Where the draft's sections end where it does, and the longer draft reads, the draft reads
 // too: then only the longer one is read. Where they do not, the draft does not read, and its reading gives its fault.
-pub fn add_section(draft: &mut [u8], part: &[u8]) -> Answer
+pub fn add_section(draft: &mut [u8], part: &mut [u8]) -> Answer
     ensures answer { λ r. ⌜ r ≡ writeAnswer (sectionAdded (now (draft .entry)) (now (part .entry))) ⌝ }
     ensures draft { λ _. ⌜ now (draft .exit) ≡ draftAfter (sectionAdded (now (draft .entry)) (now (part .entry))) (now (draft .entry)) ⌝ }
     ensures bytes { λ _. ⌜ Bytes (now (draft .entry)) ⌝ }
@@ -81,7 +81,7 @@ fn fixed_fields(id: u8) -> usize
 
 // Adds the bytes of a subsection to the section at a place, the last one, where it has the given id. What is said of the
 // draft's sections above is true of this one's subsections too.
-fn add_behind(draft: &mut [u8], id: u8, place: usize, part: &[u8]) -> Answer
+fn add_behind(draft: &mut [u8], id: u8, place: usize, part: &mut [u8]) -> Answer
     requires { ⌜ (holdsSubsections id ≡ true) × Hold (headerChecks false (now draft)) × LastAt (take (stated (now draft)) (now draft)) 8 place ⌝ }
     ensures answer { λ r. ⌜ r ≡ writeAnswer (subsectionAdded id (now (draft .entry)) (now (part .entry))) ⌝ }
     ensures draft { λ _. ⌜ now (draft .exit) ≡ draftAfter (subsectionAdded id (now (draft .entry)) (now (part .entry))) (now (draft .entry)) ⌝ }
@@ -102,7 +102,7 @@ fn add_behind(draft: &mut [u8], id: u8, place: usize, part: &[u8]) -> Answer
 }
 
 // Adds the bytes of a subsection to the last section, which is to have the given id.
-pub fn add_subsection(draft: &mut [u8], id: u8, part: &[u8]) -> Answer
+pub fn add_subsection(draft: &mut [u8], id: u8, part: &mut [u8]) -> Answer
     requires { ⌜ holdsSubsections id ≡ true ⌝ }
     ensures answer { λ r. ⌜ r ≡ writeAnswer (subsectionAdded id (now (draft .entry)) (now (part .entry))) ⌝ }
     ensures draft { λ _. ⌜ now (draft .exit) ≡ draftAfter (subsectionAdded id (now (draft .entry)) (now (part .entry))) (now (draft .entry)) ⌝ }

@@ -134,15 +134,18 @@ returns-3 c =
 
 append-or-fault-requires : tie.Need-append-or-fault-requires
 append-or-fault-requires c κs =
-    let s = c .before .before .before .before .before .before .before .before .before .before .before .before in
+    let s = c .before .before .before .before .before .before .before .before .before .before .before .before .before in
     last-standing (s .args .draft .now) (s .args .place) (s .pre .1) (s .pre .2)
 
 same-length-4 : tie.Need-same-length-4
 same-length-4 c = search needs
 
+same-length-5 : tie.Need-same-length-5
+same-length-5 c = search needs
+
 returns-4 : tie.Need-returns-4
 returns-4 c =
-    let p = c .before .before .before .before .before in
+    let p = c .before .before .before .before .before .before .before .before in
     let t = p .before .before .before .before .before .before in
     let s = t .before .before .before .before in
     let a = s .args in
@@ -154,10 +157,10 @@ returns-4 c =
     let h = p .before .before .if2 .left in
     let u = subst (λ (k : ℕ). LastOf (take (stated d) d) (a .place + k) (p .last-part .result)) f
     (subst (λ (k : ℕ). LastOf (take k d) (a .place + p .before .before .before .fixed-fields .result) (p .last-part .result)) n (p .last-part .ensures)) in
-    let tiled = walk-ended _ _ (p .last-part .result) u (c .before .before .before .before .match .keys2) in
-    let e = sub-tried d w (a .place) (a .id) b (bytes-of w (λ i. (t .before .before .shared-slice-known .given i) .fits)) (s .pre .1) (s .pre .2)
+    let tiled = walk-ended _ _ (p .last-part .result) u (c .before .before .before .before .before .before .before .match .keys2) in
+    let e = sub-tried d w (a .place) (a .id) b (bytes-of w (λ i. (t .before .before .slice-known2 .given i) .fits)) (s .pre .1) (s .pre .2)
     (last-inside d (a .place) (s .pre .1) (s .pre .2)) (p .before .before .before .before .if1 .left) (s .pre .0) (omega (arith, n, f, h)) tiled in
-    same-written d e (c .before .before .append-or-fault .ensures .0) (c .before .before .append-or-fault .ensures .1)
+    same-written d e (c .before .before .before .before .append-or-fault .ensures .0) (c .before .before .before .before .append-or-fault .ensures .1)
 
 pub add-behind-spec : {M : Type 1} → statement M
 add-behind-spec =
@@ -183,4 +186,5 @@ add-behind-spec =
     returns-3
     append-or-fault-requires
     same-length-4
+    same-length-5
     returns-4)

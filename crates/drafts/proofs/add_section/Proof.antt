@@ -32,24 +32,27 @@ returns c =
 
 append-or-fault-requires : tie.Need-append-or-fault-requires
 append-or-fault-requires c κs =
-    let l = c .before .before in
+    let l = c .before .before .before in
     let d = l .before .before .before .before .args .draft .now in
-    header-standing d (sections-ended d (l .last-section .result) (l .last-section .ensures) (c .before .match .keys2) .0)
+    header-standing d (sections-ended d (l .last-section .result) (l .last-section .ensures) (c .before .before .match .keys2) .0)
 
 same-length-2 : tie.Need-same-length-2
 same-length-2 c = search needs
 
+same-length-3 : tie.Need-same-length-3
+same-length-3 c = search needs
+
 returns-2 : tie.Need-returns-2
 returns-2 c =
-    let l = c .before .before .before .before .before in
+    let l = c .before .before .before .before .before .before .before .before in
     let k = l .before .before .before in
     let a = k .before .args in
     let d = a .draft .now in
     let w = a .part .now in
     let b = bytes-of d (λ i. (k .slice-known .given i) .fits) in
-    let e = sections-ended d (l .last-section .result) (l .last-section .ensures) (c .before .before .before .before .match .keys2) in
-    let s = section-tried d w b (bytes-of w (λ i. (l .before .before .shared-slice-known .given i) .fits)) (e .0) (e .1) in
-    let r = same-written d s (c .before .before .append-or-fault .ensures .0) (c .before .before .append-or-fault .ensures .1) in
+    let e = sections-ended d (l .last-section .result) (l .last-section .ensures) (c .before .before .before .before .before .before .before .match .keys2) in
+    let s = section-tried d w b (bytes-of w (λ i. (l .before .before .slice-known2 .given i) .fits)) (e .0) (e .1) in
+    let r = same-written d s (c .before .before .before .before .append-or-fault .ensures .0) (c .before .before .before .before .append-or-fault .ensures .1) in
     (r .0, (r .1, b))
 
 pub add-section-spec : {M : Type 1} → statement M
@@ -63,4 +66,5 @@ add-section-spec =
     returns
     append-or-fault-requires
     same-length-2
+    same-length-3
     returns-2)

@@ -31,9 +31,9 @@ enum-known-last c = search needs
 
 add-behind-requires : tie.Need-add-behind-requires
 add-behind-requires c κs =
-    let l = c .before .before .before .before in
+    let l = c .before .before .before .before .before in
     let s = l .before .before .before .before in
-    let w = subst (λ (r : Last). LastSection (s .args .draft .now) r) (c .before .before .last .given .1) (l .last-section .ensures) in
+    let w = subst (λ (r : Last). LastSection (s .args .draft .now) r) (c .before .before .before .last .given .1) (l .last-section .ensures) in
     (s .pre, w .0, w .1)
 
 same-length : tie.Need-same-length
@@ -65,10 +65,13 @@ returns-2 c =
 same-length-3 : tie.Need-same-length-3
 same-length-3 c = search needs
 
+same-length-4 : tie.Need-same-length-4
+same-length-4 c = search needs
+
 returns-3 : tie.Need-returns-3
 returns-3 c =
-    let a = c .before .before .add-behind .ensures in
-    let k = c .before .before .before .before .before .before .before .before .before .before in
+    let a = c .before .before .before .before .add-behind .ensures in
+    let k = c .before .before .before .before .before .before .before .before .before .before .before .before .before in
     (a .0, (a .1, bytes-of (k .before .args .draft .now) (λ i. (k .slice-known .given i) .fits)))
 
 pub add-subsection-spec : {M : Type 1} → statement M
@@ -87,4 +90,5 @@ add-subsection-spec =
     same-length-2
     returns-2
     same-length-3
+    same-length-4
     returns-3)

@@ -21,21 +21,27 @@ enum-known-a-2 c = search needs
 same-length : tie.Need-same-length
 same-length c = search needs
 
+same-length-2 : tie.Need-same-length-2
+same-length-2 c = search needs
+
 returns : tie.Need-returns
 returns c =
-    let s = c .before .before .before .before .before .before .before .before .before .before .before in
-    let p = c .before .before .before .before .before .before .before in
+    let s = c .before .before .before .before .before .before .before .before .before .before .before .before .before .before in
+    let p = c .before .before .before .before .before .before .before .before .before in
     let a = s .args in
     own-refused (a .draft .now) (appended (a .draft .now) (a .section) (a .part .now))
     (sym (c .before .before .before .a .given .1) ∙ p .append .ensures .0) (p .append .ensures .1) (c .own-fault-or .ensures)
 
-same-length-2 : tie.Need-same-length-2
-same-length-2 c = search needs
+same-length-3 : tie.Need-same-length-3
+same-length-3 c = search needs
+
+same-length-4 : tie.Need-same-length-4
+same-length-4 c = search needs
 
 returns-2 : tie.Need-returns-2
 returns-2 c =
-    let s = c .before .before .before .before .before .before .before .before .before in
-    let p = c .before .before .before .before .before in
+    let s = c .before .before .before .before .before .before .before .before .before .before .before .before in
+    let p = c .before .before .before .before .before .before .before in
     let a = s .args in
     own-found (a .draft .now) (appended (a .draft .now) (a .section) (a .part .now))
     (sym (c .before .a2 .given .1) ∙ p .append .ensures .0) (p .append .ensures .1)
@@ -49,6 +55,8 @@ append-or-fault-spec =
     own-fault-or-requires
     enum-known-a-2
     same-length
-    returns
     same-length-2
+    returns
+    same-length-3
+    same-length-4
     returns-2)
