@@ -1,15 +1,14 @@
--- The longer draft as bytes: lengths restated in it, and a part stored behind it. Assumes nothing.
-use mathlib.Core.Path.{_≡_, sym, ap, ap₂, _∙_}
+-- The longer draft as bytes: lengths restated in it, and how long it is. Assumes nothing.
+use mathlib.Core.Path.{_≡_, sym, ap, _∙_}
 use mathlib.Core.List.{List, _++_}
 use Prim.Native.Nat.{ℕ, suc, _+_, _-_, _/_, _%_, _≤_}
 use native.Mathlib.Omega.{arith}
-use lib.ListN.{length, take, drop, set, length-append, length-drop, length-set}
-use lib.Seq.{sets, sets-eq, take-at, drop-drop, length-take-le, set-append-left, lt-length-set}
+use lib.ListN.{length, take, drop, set, length-append, length-set}
+use lib.Seq.{drop-drop, length-take-le, set-append-left, lt-length-set}
 use Rattle.format.specs.Bytes.{number, bytesAt, bigEndian}
 use Rattle.format.specs.Reading.{stated}
 use Rattle.format.proofs.Changes.{restate}
 use Rattle.storing.specs.Storing.{Stored}
-use Rattle.storing.proofs.Stores.{sets-front}
 use Rattle.drafts.specs.Adding.{Standing, grown}
 
 -- ---- another length in a part

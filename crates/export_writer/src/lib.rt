@@ -35,5 +35,5 @@ pub fn export_parameters(
     let g = put(&mut part, f, variant);
     let h = put_one(&mut part, g, vector.len() as u8);
     let i = put(&mut part, h, vector);
-    add_subsection(draft, 0x12, &part[..i])
+    add_subsection(draft, 0x12, &mut part[..i])
 }

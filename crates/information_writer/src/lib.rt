@@ -26,7 +26,7 @@ pub fn protection(draft: &mut [u8], mac_key: &[u8], mac: &[u8], mkvp: &[u8]) -> 
     let c = put(&mut part, b, mac_key);
     let d = put(&mut part, c, mac);
     let e = put(&mut part, d, mkvp);
-    add_subsection(draft, 0x14, &part[..e])
+    add_subsection(draft, 0x14, &mut part[..e])
 }
 
 // Adds 14/0002, the dates: flags, activation and expiration.
@@ -43,5 +43,5 @@ pub fn dates(draft: &mut [u8], flags: u16, activation: &[u8], expiration: &[u8])
     let c = put_two(&mut part, b, flags as usize);
     let d = put(&mut part, c, activation);
     let e = put(&mut part, d, expiration);
-    add_subsection(draft, 0x14, &part[..e])
+    add_subsection(draft, 0x14, &mut part[..e])
 }

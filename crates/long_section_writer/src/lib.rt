@@ -39,7 +39,7 @@ pub fn public_key(
     let mut part = [0u8; TOKEN];
     let n = 16 + exponent.len() + modulus.len();
     if ROOM < n {
-        return add_section(draft, &part);
+        return add_section(draft, &mut part);
     }
     let zeros_at = section_head(&mut part, 0x11, n);
     let exponent_count_at = put_two(&mut part, zeros_at, 0);
@@ -49,7 +49,7 @@ pub fn public_key(
     let modulus_at = put(&mut part, exponent_at, exponent);
     let flags_at = put(&mut part, modulus_at, modulus);
     let end = put_four(&mut part, flags_at, flags);
-    add_section(draft, &part[..end])
+    add_section(draft, &mut part[..end])
 }
 
 // Section 15, the application data: any bytes.
@@ -63,10 +63,10 @@ pub fn application_data(draft: &mut [u8], data: &[u8]) -> Answer
     let mut part = [0u8; TOKEN];
     let n = 6 + data.len();
     if ROOM < n {
-        return add_section(draft, &part);
+        return add_section(draft, &mut part);
     }
     let count_at = section_head(&mut part, 0x15, n);
     let data_at = put_two(&mut part, count_at, data.len());
     let end = put(&mut part, data_at, data);
-    add_section(draft, &part[..end])
+    add_section(draft, &mut part[..end])
 }

@@ -37,7 +37,7 @@ pub fn rule(
     let symmetric_at = put_one(&mut part, check_at, key_check);
     let asymmetric_at = put_one(&mut part, symmetric_at, symmetric_format);
     let end = put_one(&mut part, asymmetric_at, asymmetric_format);
-    add_section(draft, &part[..end])
+    add_section(draft, &mut part[..end])
 }
 
 // Section 13, the name: 64 bytes.
@@ -51,7 +51,7 @@ pub fn name(draft: &mut [u8], name: &[u8]) -> Answer
     let mut part = [0u8; 68];
     let at = section_head(&mut part, 0x13, 68);
     let end = put(&mut part, at, name);
-    add_section(draft, &part[..end])
+    add_section(draft, &mut part[..end])
 }
 
 // Section 14, the information: its flags. Subsections are added behind it.
@@ -63,5 +63,5 @@ pub fn information(draft: &mut [u8], flags: u32) -> Answer
     let at = section_head(&mut part, 0x14, 10);
     let flags_at = put_two(&mut part, at, 0);
     let end = put_four(&mut part, flags_at, flags);
-    add_section(draft, &part[..end])
+    add_section(draft, &mut part[..end])
 }

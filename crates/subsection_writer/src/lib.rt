@@ -27,7 +27,7 @@ pub fn transport_variant(draft: &mut [u8], variant: &[u8]) -> Answer
     let b = put_two(&mut part, a, 0);
     let c = put_one(&mut part, b, variant.len() as u8);
     let d = put(&mut part, c, variant);
-    add_subsection(draft, 0x12, &part[..d])
+    add_subsection(draft, 0x12, &mut part[..d])
 }
 
 // Adds the subsection of section 12 with this tag, which holds a Rule ID.
@@ -42,7 +42,7 @@ fn referenced_rule(draft: &mut [u8], tag: u8, rule_id: &[u8]) -> Answer
     let a = subsection_head(&mut part, tag, 14);
     let b = put_one(&mut part, a, 0);
     let c = put(&mut part, b, rule_id);
-    add_subsection(draft, 0x12, &part[..c])
+    add_subsection(draft, 0x12, &mut part[..c])
 }
 
 // Adds 12/0002, the transport rule: its Rule ID.

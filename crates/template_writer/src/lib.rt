@@ -38,5 +38,5 @@ pub fn token_parameters(
     let f = put(&mut part, e, template);
     let g = put_one(&mut part, f, label_template.len() as u8);
     let h = put(&mut part, g, label_template);
-    add_subsection(draft, 0x12, &part[..h])
+    add_subsection(draft, 0x12, &mut part[..h])
 }

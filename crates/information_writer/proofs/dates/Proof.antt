@@ -71,13 +71,13 @@ slice-aggregate-put-2 c = search needs
 put-requires-2 : tie.Need-put-requires-2
 put-requires-2 c κs = omega (arith, lengths (c .before .before .before .before .before .before .before .before .before .before .before .before .before))
 
-array-share-prefix-part : tie.Need-array-share-prefix-part
-array-share-prefix-part c = omega (arith, lengths (c .before .before .before .before .before .before .before .before .before .before .before .before .before .before .before .before))
+array-borrow-prefix-part : tie.Need-array-borrow-prefix-part
+array-borrow-prefix-part c = omega (arith, lengths (c .before .before .before .before .before .before .before .before .before .before .before .before .before .before .before .before))
 
 slice-aggregate-add-subsection : tie.Need-slice-aggregate-add-subsection
 slice-aggregate-add-subsection c =
     let p = c .before .before .before .put2 in
-    sym (length-take-le (p .result) (p .last .0) (array-share-prefix-part (c .before)))
+    sym (length-take-le (p .result) (p .last .0) (array-borrow-prefix-part (c .before)))
 
 add-subsection-requires : tie.Need-add-subsection-requires
 add-subsection-requires c κs = search needs
@@ -87,7 +87,7 @@ same-length-2 c = search needs
 
 returns-2 : tie.Need-returns-2
 returns-2 c =
-    let s = c .before .before in
+    let s = c .before .before .before in
     let y = s .before .before .before .before in
     let x = y .before .before .before in
     let f = x .before .before .before in
@@ -124,7 +124,7 @@ dates-spec =
     put-requires
     slice-aggregate-put-2
     put-requires-2
-    array-share-prefix-part
+    array-borrow-prefix-part
     slice-aggregate-add-subsection
     add-subsection-requires
     same-length-2

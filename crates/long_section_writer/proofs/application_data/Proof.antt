@@ -41,7 +41,7 @@ same-length-2 c = search needs
 
 returns-2 : tie.Need-returns-2
 returns-2 c =
-    let s = c .before .before in
+    let s = c .before .before .before in
     let a = s .before .before .before .before .before .before .before .args in
     let x = a .«data» .now in
     let l : length (x ++ []) ≡ length x = ap length (append-nil x) in
@@ -67,8 +67,8 @@ slice-aggregate-put c = search needs
 put-requires : tie.Need-put-requires
 put-requires c κs = search needs
 
-array-share-prefix-part : tie.Need-array-share-prefix-part
-array-share-prefix-part c = search needs
+array-borrow-prefix-part : tie.Need-array-borrow-prefix-part
+array-borrow-prefix-part c = search needs
 
 slice-aggregate-add-section-2 : tie.Need-slice-aggregate-add-section-2
 slice-aggregate-add-section-2 c =
@@ -83,7 +83,7 @@ same-length-3 c = search needs
 
 returns-3 : tie.Need-returns-3
 returns-3 c =
-    let s = c .before .before in
+    let s = c .before .before .before in
     let p = s .before .before .before .before in
     let n = p .before .before .before in
     let h = n .before .before .before in
@@ -114,7 +114,7 @@ application-data-spec =
     put-two-requires
     slice-aggregate-put
     put-requires
-    array-share-prefix-part
+    array-borrow-prefix-part
     slice-aggregate-add-section-2
     add-section-requires-2
     same-length-3

@@ -79,7 +79,7 @@ same-length-3 c = search needs
 
 returns-3 : tie.Need-returns-3
 returns-3 c =
-    let s = c .before .before in
+    let s = c .before .before .before in
     let a = s .before .before .before .before .before .before .before .before .before .args in
     let x = a .exponent .now in
     let y = a .modulus .now in
@@ -135,8 +135,8 @@ slice-aggregate-put-four c = search needs
 put-four-requires : tie.Need-put-four-requires
 put-four-requires c κs = search needs
 
-array-share-prefix-part : tie.Need-array-share-prefix-part
-array-share-prefix-part c = search needs
+array-borrow-prefix-part : tie.Need-array-borrow-prefix-part
+array-borrow-prefix-part c = search needs
 
 slice-aggregate-add-section-2 : tie.Need-slice-aggregate-add-section-2
 slice-aggregate-add-section-2 c =
@@ -151,7 +151,7 @@ same-length-4 c = search needs
 
 returns-4 : tie.Need-returns-4
 returns-4 c =
-    let s = c .before .before in
+    let s = c .before .before .before in
     let f = s .before .before .before .before in
     let m = f .before .before .before in
     let x = m .before .before .before in
@@ -216,7 +216,7 @@ public-key-spec =
     put-requires-2
     slice-aggregate-put-four
     put-four-requires
-    array-share-prefix-part
+    array-borrow-prefix-part
     slice-aggregate-add-section-2
     add-section-requires-2
     same-length-4

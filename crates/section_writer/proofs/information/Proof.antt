@@ -28,8 +28,8 @@ slice-aggregate-put-four c = search needs
 put-four-requires : tie.Need-put-four-requires
 put-four-requires c κs = search needs
 
-array-share-prefix-part : tie.Need-array-share-prefix-part
-array-share-prefix-part c = search needs
+array-borrow-prefix-part : tie.Need-array-borrow-prefix-part
+array-borrow-prefix-part c = search needs
 
 slice-aggregate-add-section : tie.Need-slice-aggregate-add-section
 slice-aggregate-add-section c =
@@ -44,7 +44,7 @@ same-length c = search needs
 
 returns : tie.Need-returns
 returns c =
-    let s = c .before .before in
+    let s = c .before .before .before in
     let f = s .before .before .before .before in
     let z = f .before .before .before in
     let h = z .before .before .before in
@@ -65,7 +65,7 @@ information-spec =
     put-two-requires
     slice-aggregate-put-four
     put-four-requires
-    array-share-prefix-part
+    array-borrow-prefix-part
     slice-aggregate-add-section
     add-section-requires
     same-length

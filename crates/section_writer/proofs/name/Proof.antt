@@ -38,8 +38,8 @@ slice-aggregate-put c = search needs
 put-requires : tie.Need-put-requires
 put-requires c κs = search needs
 
-array-share-prefix-part : tie.Need-array-share-prefix-part
-array-share-prefix-part c = search needs
+array-borrow-prefix-part : tie.Need-array-borrow-prefix-part
+array-borrow-prefix-part c = search needs
 
 slice-aggregate-add-section : tie.Need-slice-aggregate-add-section
 slice-aggregate-add-section c =
@@ -54,7 +54,7 @@ same-length-2 c = search needs
 
 returns-2 : tie.Need-returns-2
 returns-2 c =
-    let s = c .before .before in
+    let s = c .before .before .before in
     let p = s .before .before .before .before in
     let h = p .before .before .before in
     let a = h .before .before .before .before .before .args in
@@ -74,7 +74,7 @@ name-spec =
     section-head-requires
     slice-aggregate-put
     put-requires
-    array-share-prefix-part
+    array-borrow-prefix-part
     slice-aggregate-add-section
     add-section-requires
     same-length-2

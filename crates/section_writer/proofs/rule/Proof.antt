@@ -69,8 +69,8 @@ slice-aggregate-put-one-4 c = search needs
 put-one-requires-4 : tie.Need-put-one-requires-4
 put-one-requires-4 c κs = search needs
 
-array-share-prefix-part : tie.Need-array-share-prefix-part
-array-share-prefix-part c = search needs
+array-borrow-prefix-part : tie.Need-array-borrow-prefix-part
+array-borrow-prefix-part c = search needs
 
 slice-aggregate-add-section : tie.Need-slice-aggregate-add-section
 slice-aggregate-add-section c =
@@ -85,7 +85,7 @@ same-length-2 c = search needs
 
 returns-2 : tie.Need-returns-2
 returns-2 c =
-    let s = c .before .before in
+    let s = c .before .before .before in
     let b₄ = s .before .before .before .before in
     let b₃ = b₄ .before .before .before in
     let b₂ = b₃ .before .before .before in
@@ -139,7 +139,7 @@ rule-spec =
     put-one-requires-3
     slice-aggregate-put-one-4
     put-one-requires-4
-    array-share-prefix-part
+    array-borrow-prefix-part
     slice-aggregate-add-section
     add-section-requires
     same-length-2

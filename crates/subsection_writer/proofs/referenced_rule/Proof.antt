@@ -39,13 +39,13 @@ slice-aggregate-put c = search needs
 put-requires : tie.Need-put-requires
 put-requires c κs = search needs
 
-array-share-prefix-part : tie.Need-array-share-prefix-part
-array-share-prefix-part c = search needs
+array-borrow-prefix-part : tie.Need-array-borrow-prefix-part
+array-borrow-prefix-part c = search needs
 
 slice-aggregate-add-subsection : tie.Need-slice-aggregate-add-subsection
 slice-aggregate-add-subsection c =
     let p = c .before .before .before .put in
-    sym (length-take-le (p .result) (p .last .0) (array-share-prefix-part (c .before)))
+    sym (length-take-le (p .result) (p .last .0) (array-borrow-prefix-part (c .before)))
 
 add-subsection-requires : tie.Need-add-subsection-requires
 add-subsection-requires c κs = search needs
@@ -55,7 +55,7 @@ same-length-2 c = search needs
 
 returns-2 : tie.Need-returns-2
 returns-2 c =
-    let s = c .before .before in
+    let s = c .before .before .before in
     let v = s .before .before .before .before in
     let z = v .before .before .before in
     let h = z .before .before .before in
@@ -82,7 +82,7 @@ referenced-rule-spec =
     put-one-requires
     slice-aggregate-put
     put-requires
-    array-share-prefix-part
+    array-borrow-prefix-part
     slice-aggregate-add-subsection
     add-subsection-requires
     same-length-2

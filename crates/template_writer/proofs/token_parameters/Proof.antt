@@ -117,13 +117,13 @@ slice-aggregate-put-3 c = search needs
 put-requires-3 : tie.Need-put-requires-3
 put-requires-3 c κs = omega (arith, lengths (c .before .before .before .before .before .before .before .before .before .before .before .before .before .before .before .before .before .before .before .before .before .before))
 
-array-share-prefix-part : tie.Need-array-share-prefix-part
-array-share-prefix-part c = omega (arith, lengths (c .before .before .before .before .before .before .before .before .before .before .before .before .before .before .before .before .before .before .before .before .before .before .before .before .before))
+array-borrow-prefix-part : tie.Need-array-borrow-prefix-part
+array-borrow-prefix-part c = omega (arith, lengths (c .before .before .before .before .before .before .before .before .before .before .before .before .before .before .before .before .before .before .before .before .before .before .before .before .before))
 
 slice-aggregate-add-subsection : tie.Need-slice-aggregate-add-subsection
 slice-aggregate-add-subsection c =
     let p = c .before .before .before .put3 in
-    sym (length-take-le (p .result) (p .last .0) (array-share-prefix-part (c .before)))
+    sym (length-take-le (p .result) (p .last .0) (array-borrow-prefix-part (c .before)))
 
 add-subsection-requires : tie.Need-add-subsection-requires
 add-subsection-requires c κs = search needs
@@ -133,7 +133,7 @@ same-length-2 c = search needs
 
 returns-2 : tie.Need-returns-2
 returns-2 c =
-    let s = c .before .before in
+    let s = c .before .before .before in
     let w = s .before .before .before .before in
     let k = w .before .before .before in
     let v = k .before .before .before in
@@ -191,7 +191,7 @@ token-parameters-spec =
     put-one-requires-3
     slice-aggregate-put-3
     put-requires-3
-    array-share-prefix-part
+    array-borrow-prefix-part
     slice-aggregate-add-subsection
     add-subsection-requires
     same-length-2

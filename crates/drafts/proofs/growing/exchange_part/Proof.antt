@@ -29,9 +29,11 @@ same-length-2 c = search needs
 returns : tie.Need-returns
 returns c =
     let x = c .before .before .before .before .before .before .before .before .before .before .before .before in
-    let a = x .before .before .before .before .before .args in
-    (c .before .before .state2 .ensures
-    ∙ ap (restate (a .section) (a .m)) (c .before .before .before .before .before .before .state .ensures ∙ ap (restate 0 (a .n)) (x .exchange .ensures .0)), x .exchange .ensures .1)
+    let a = x .before .before .before .before .before .args in (
+      c .before .before .state2 .ensures
+          ∙ ap (restate (a .section) (a .m)) (c .before .before .before .before .before .before .state .ensures ∙ ap (restate 0 (a .n)) (x .exchange .ensures .0)),
+      x .exchange .ensures .1,
+    )
 
 pub exchange-part-spec : {M : Type 1} → statement M
 exchange-part-spec =

@@ -1,5 +1,5 @@
 -- The loop over the parts, each as long as it states.
-use mathlib.Core.Path.{_≡_, sym, _∙_}
+use mathlib.Core.Path.{_≡_}
 use Prim.Native.Nat.{_-_}
 use native.Mathlib.Omega.{arith}
 use lib.ListN.{length, drop}
@@ -57,9 +57,11 @@ returns-3 c =
 last-twenty-requires : tie.Need-last-twenty-requires Inv-loop μ-loop
 last-twenty-requires c κs =
     let w = c .before .before .before .before .before .before in
-    let h = c .before .if3 .left in
-    (twenty-first (number-at (w .before .before .args .s .now) (w .loop .p) 2 2 (c .before .before .before .two .ensures .0)) (c .if4 .taken)
-    (c .before .before .before .before .before .loop-test .taken) (omega arith), w .before .before .pre .1)
+    let h = c .before .if3 .left in (
+      twenty-first (number-at (w .before .before .args .s .now) (w .loop .p) 2 2 (c .before .before .before .two .ensures .0)) (c .if4 .taken)
+          (c .before .before .before .before .before .loop-test .taken) (omega arith),
+      w .before .before .pre .1,
+    )
 
 add-p : tie.Need-add-p Inv-loop μ-loop
 add-p c =
