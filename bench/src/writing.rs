@@ -52,6 +52,9 @@ pub fn measure_all() {
     println!("the addition of a rule / a reading of the draft of 3,400 bytes");
     measure_against_reading("library", &last_rule, &LIBRARY);
     measure_against_reading("Rust", &last_rule, &RUST);
+    println!("the same for a rule whose ID stands before: refused by 9");
+    measure_refusal("library", &last_rule, &LIBRARY);
+    measure_refusal("Rust", &last_rule, &RUST);
 }
 
 /// Builds a token from its parts; gives what the finish answers.
@@ -124,7 +127,20 @@ fn measure_addition(name: &str, token: &[u8]) {
 
 /// The addition of a token's last part to a reading of the draft before it.
 fn measure_against_reading(name: &str, token: &[u8], by: &Writer) {
+    measure_beside(name, Addition::new(token), by);
+}
+
+/// The same with the part before the last one, which the draft has already.
+fn measure_refusal(name: &str, token: &[u8], by: &Writer) {
+    let (_, mut parts) = taken_apart(token).expect("legal");
+    parts.pop();
     let mut addition = Addition::new(token);
+    addition.part = parts.pop().expect("a rule");
+    assert_eq!(addition.again(by), Answer::new(9, addition.length));
+    measure_beside(name, addition, by);
+}
+
+fn measure_beside(name: &str, mut addition: Addition, by: &Writer) {
     let draft = addition.draft[..addition.length].to_vec();
     let pairs = interleaved(|| addition.again(by), || (by.read)(black_box(&draft)));
     print(name, pairs);
