@@ -146,7 +146,7 @@ uint32_t tb_row(const uint8_t *token, size_t token_len, uint32_t row, uint32_t *
 
 /*
  * A token is made in a draft: a buffer of the caller, `draft_len` bytes large. Its first bytes, as many as
- * its header states, are the token so far, and keep all rules but 20; what stands behind them is neither
+ * its header states, are the token so far, and keep all rules but 20; what stands after them is neither
  * looked at nor changed. Start it, add the parts in their order, finish it, and take the bytes.
  *
  * tb_start writes the 8 bytes of the header. 0: second = 8. 23: the buffer is under 8 bytes, 2: the

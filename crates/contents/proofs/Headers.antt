@@ -1,4 +1,4 @@
--- The header's tests, and the answer behind them.
+-- The header's tests, and the answer after them.
 use mathlib.Core.Path.{_≡_, refl, sym, ap, ap₂, _∙_, subst}
 use mathlib.Core.Bool.{Bool, true, false, _&&_, _||_, or-true, and-false}
 use mathlib.Core.List.{List, []}
@@ -8,9 +8,8 @@ use lib.Dec.{eqb, leb}
 use lib.ListN.{length, getD, take, drop, length-drop}
 use lib.Seq.{take-all, length-take-le}
 use borrow.Author.Tests.{eq-eqb, ne-eqb, eqb-true, eqb-false, le-leb, lt-leb, leb-true}
-use Rattle.format.specs.Rules.{external}
-use Rattle.format.specs.Legal.{knownId}
-use Rattle.format.specs.Reading.{tested, told, idOf, stated, lengthAllowed, headerChecks, sections, rowCount, reading, answer}
+use Rattle.format.specs.Parts.{external, knownId}
+use Rattle.format.specs.Reading.{tested, asAnswer, idOf, stated, lengthAllowed, headerChecks, sections, rowCount, reading, answer}
 use Rattle.format.specs.declared.Answer.the-variants.{Refused}
 use Rattle.format.proofs.Finding.{and-split}
 use Rattle.format.proofs.Tests.{Hold}
@@ -118,7 +117,7 @@ lengths false s c =
 
 module _ {h : ℕ} (full : Bool) (s : List ℕ) (e : h ≡ firstRefusal (headerChecks full s)) where
   -- A header with a number is refused with it.
-  pub header-stops : (h ≡ 0 → ⊥) → Refused h 0 ≡ told rowCount (reading full s)
+  pub header-stops : (h ≡ 0 → ⊥) → Refused h 0 ≡ asAnswer rowCount (reading full s)
   unfolding reading
   header-stops n =
       refused-told rowCount
@@ -129,18 +128,18 @@ module _ {h : ℕ} (full : Bool) (s : List ℕ) (e : h ≡ firstRefusal (headerC
   pub header-lengths : h ≡ 0 → Lengths s
   header-lengths z = lengths full s (all-hold (headerChecks full s) refl (sym z ∙ e))
 
-  -- Behind it the sections in the stated length are read.
-  pub header-goes : h ≡ 0 → told rowCount (reading full s) ≡ sectionsAnswer (take (stated s) s) full (external (idOf s))
+  -- After it the sections in the stated length are read.
+  pub header-goes : h ≡ 0 → asAnswer rowCount (reading full s) ≡ sectionsAnswer (take (stated s) s) full (external (idOf s))
   unfolding reading
   header-goes z =
       let l = header-lengths z .within in
       let n = length-drop 8 (take (stated s) s) in
       let m = length-take-le (stated s) s l in
-      ap (told rowCount)
+      ap (asAnswer rowCount)
       (leads 0 (headerChecks full s) _ refl (sym e ∙ z)
       ∙ sections-from (suc (stated s)) full (external (idOf s)) [] 8 (drop 8 (take (stated s) s)) (omega arith))
 
--- A token is as long as its header states, and its sections are all that is behind it.
+-- A token is as long as its header states, and its sections are all that is after it.
 module _ {h : ℕ} (s : List ℕ) (e : h ≡ firstRefusal (headerChecks true s)) (z : h ≡ 0) where
   pub whole-length : stated s ≡ length s
   whole-length =

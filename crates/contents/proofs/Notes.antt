@@ -7,10 +7,10 @@ use Prim.Native.Nat.{ℕ, _+_, _<_, _≤_}
 use native.Mathlib.Omega.{arith}
 use lib.ListN.{length, getD, drop}
 use Rattle.format.specs.Bytes.{number, bytesAt}
-use Rattle.format.specs.Layout.{least}
-use Rattle.format.specs.Parts.{Kind, rule, sectionId, sameKind, sectionKind, layout, Part}
+use Rattle.format.specs.Slots.{least}
+use Rattle.format.specs.Parts.{Kind, rule, sectionId, sameKind, layout, Part}
+use Rattle.format.specs.Reading.{sectionKind, idOf, stated, partIn}
 use Rattle.format.specs.Rules.{Section}
-use Rattle.format.specs.Reading.{idOf, stated, partIn}
 use Rattle.format.proofs.Finding.{sameKind-eq, sectionKind-sound}
 use Rattle.rule_ids.specs.Keys.{Put}
 use Rattle.sections.proofs.Laws.{byte-number, at-drop}
@@ -71,7 +71,7 @@ pub other-noted : {before : List Section} {ids : List ℕ} (s : List ℕ) (q : �
     → (getD s q 0 ≡ 18 → ⊥) → Held before q ids → Held (before ++ c ∷ []) (q + stated (drop q s)) ids
 other-noted s q c w h e held = held-skip c held (omega arith) (other-here s q c w h e)
 
--- ---- the sections one behind another
+-- ---- the sections one after another
 
 pub ahead-le : (s : List ℕ) (q : ℕ) (cs : List Section) (p : ℕ) → Ahead s q cs p → q ≤ p
 ahead-le s q [] p a = omega arith

@@ -9,9 +9,9 @@ use lib.Dec.{eqb}
 use lib.ListN.{length, getD, drop}
 use borrow.Author.Tests.{ne-eqb}
 use Rattle.format.specs.Bytes.{number, bytesAt}
-use Rattle.format.specs.Parts.{Kind, rule, information, isSubsection, sectionId, sameKind, sectionKind}
+use Rattle.format.specs.Parts.{Kind, rule, information, isSubsection, sectionId, sameKind}
+use Rattle.format.specs.Reading.{sectionKind, partIn, kindBefore, ruleBefore, sectionChecks, section, asAnswer}
 use Rattle.format.specs.Rules.{Section}
-use Rattle.format.specs.Reading.{partIn, kindBefore, ruleBefore, sectionChecks, section, told}
 use Rattle.format.specs.declared.Answer.the-variants.{Accepted}
 use Rattle.format.proofs.Finding.{every-kind, sectionKind-sound, sectionKind-told}
 use Rattle.sections.specs.Refusals.{firstRefusal, unless, sectionRows}
@@ -28,10 +28,10 @@ pub alone-told : {seen : Bool} (full x : Bool) (k : Kind) (before : List Section
     → sectionKind (number (bytesAt s p 1)) ≡ some k → kindBefore k before ≡ seen
     → ((y repeated : Bool) → f ≡ firstRefusal (sectionChecks y k seen repeated (drop p s)))
     → sameKind rule k ≡ false → sameKind information k ≡ false
-    → unless f p (Accepted 1) ≡ told sectionRows (section full x before p (drop p s))
-unfolding unless told
+    → unless f p (Accepted 1) ≡ asAnswer sectionRows (section full x before p (drop p s))
+unfolding unless asAnswer
 alone-told full x k before s p zero h e a t r i =
-    sym (ap (told sectionRows) (plain-found full x k before s p h e a refl (t x (ruleBefore (partIn k (drop p s)) before)) r i))
+    sym (ap (asAnswer sectionRows) (plain-found full x k before s p h e a refl (t x (ruleBefore (partIn k (drop p s)) before)) r i))
 alone-told full x k before s p (suc n) h e a t r i =
     section-stops full x k before s p h e a refl (t x (ruleBefore (partIn k (drop p s)) before)) (λ q. omega arith)
 

@@ -7,7 +7,7 @@ use native.Mathlib.Omega.{arith}
 use lib.ListN.{length, getD, set, drop, length-set}
 use Rattle.format.specs.Parts.{sectionId}
 use Rattle.format.specs.Rules.{Section}
-use Rattle.format.specs.Reading.{idOf, stated, section, told}
+use Rattle.format.specs.Reading.{idOf, stated, section, asAnswer}
 use Rattle.format.specs.declared.Answer.{Answer}
 use Rattle.format.specs.declared.Answer.the-variants.{Accepted, Refused}
 use Rattle.format.proofs.Finding.{sectionKind-sound}
@@ -33,12 +33,12 @@ module _ {s : List ℕ} {full x : Bool} {p n : ℕ} {seen : List Bool} (w : Turn
   turn-short e = refused-here s full x p (w .read) h (short-here s full x (w .read .before) p (omega arith) e)
 
   -- The section is refused.
-  pub turn-refused : {m q : ℕ} {r : Answer} → ((before : List Section) → Marked seen before → r ≡ told sectionRows (section full x before p (drop p s)))
+  pub turn-refused : {m q : ℕ} {r : Answer} → ((before : List Section) → Marked seen before → r ≡ asAnswer sectionRows (section full x before p (drop p s)))
       → r ≡ Refused m q → Refused m q ≡ sectionsAnswer s full x
   turn-refused a e = refused-here s full x p (w .read) h (sym e ∙ a (w .read .before) (w .read .marked))
 
   -- The section is found.
-  pub turn-found : {k : ℕ} {r : Answer} → ((before : List Section) → Marked seen before → r ≡ told sectionRows (section full x before p (drop p s)))
+  pub turn-found : {k : ℕ} {r : Answer} → ((before : List Section) → Marked seen before → r ≡ asAnswer sectionRows (section full x before p (drop p s)))
       → r ≡ Accepted k → Found s full x (w .read .before) p k
   turn-found a e = found-here s full x (w .read .before) p h (sym e ∙ a (w .read .before) (w .read .marked))
 
@@ -57,7 +57,7 @@ module _ {s : List ℕ} {full x : Bool} {p n : ℕ} {seen : List Bool} (w : Turn
         marks = length-set seen i true ∙ w .marks;
       }
 
-  -- Behind a run of rules.
+  -- After a run of rules.
   pub turn-ran : {q m : ℕ} {r : Run} → Ran s full x seen p r → r ≡ Next q m → Turn s full x q m seen × (p < q)
   turn-ran a e =
       let g = subst (λ (y : Run). Ran s full x seen p y) e a in

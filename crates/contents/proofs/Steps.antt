@@ -1,4 +1,4 @@
--- One section more: what the loops over sections know behind it.
+-- One section more: what the loops over sections know after it.
 use mathlib.Core.Path.{_≡_, refl, sym, ap, _∙_, subst}
 use mathlib.Core.Bool.{Bool, true, false, not, _||_, or-true, or-false, or-assoc}
 use mathlib.Core.List.{List, [], _∷_, _++_}
@@ -9,11 +9,12 @@ use lib.Dec.{leb, ltb}
 use lib.ListN.{length, getD, set, drop, length-append, length-drop}
 use lib.Seq.{drop-drop, getD-set-same, getD-set-other}
 use borrow.Author.Tests.{leb-true, le-leb, lt-leb, ltb-true}
-use Rattle.format.specs.Layout.{least}
-use Rattle.format.specs.Parts.{Kind, rule, information, isSubsection, sectionId, sameKind, sectionKind, layout, Part}
+use Rattle.format.specs.Slots.{least}
+use Rattle.format.specs.Parts.{Kind, rule, information, isSubsection, sectionId, sameKind, layout, Part}
+use Rattle.format.specs.Reading.{sectionKind}
 use Rattle.format.specs.Rules.{Section, maskCovers, hasRequired}
 use Rattle.format.specs.Reading.{fault, Outcome, refused, found, need, andThen, tested, idOf, stated, partIn, madeLength, subsection, subsections, kindBefore, ruleBefore}
-use Rattle.format.specs.Reading.{sectionChecks, closed, sectionRest, section, rowCount, partsOf, told}
+use Rattle.format.specs.Reading.{sectionChecks, afterSubsections, sectionRest, section, rowCount, partsOf, asAnswer}
 use Rattle.format.specs.declared.Answer.the-variants.{Accepted, Refused}
 use Rattle.format.proofs.Finding.{and-split, every-kind, sameKind-eq, sectionKind-told}
 use Rattle.format.proofs.Sound.{kinds-differ}
@@ -51,7 +52,7 @@ known : (full x : Bool) (k : Kind) (before : List Section) (at : ℕ) (r : List 
     → section full x before at r ≡ found c
     → tested at (sectionChecks x k (kindBefore k before) (ruleBefore (partIn k r) before) r) (sectionRest full x k at r) ≡ found c
     → Stands r c
-unfolding sectionRest closed
+unfolding sectionRest afterSubsections
 known full x k before at r c q g e =
     let t = tests-passed at (sectionChecks x k (kindBefore k before) (ruleBefore (partIn k r) before) r) _ c e in
     let w = and-split (leb (least (layout k)) (stated r)) (leb (stated r) (length r)) (t .0 .1 .0) in
@@ -88,9 +89,9 @@ stands full x before at r c e = go (sectionKind (idOf r)) refl (needed (leb 4 (l
     go none q w = absurd (refused-not w)
     go (some k) q w = known full x k before at r c q e w
 
--- ---- behind it
+-- ---- after it
 
--- The section stands behind those before it.
+-- The section stands after those before it.
 pub ahead-more : (s : List ℕ) (q : ℕ) (cs : List Section) (p : ℕ) (c : Section) → Ahead s q cs p → Stands (drop p s) c
     → Ahead s q (cs ++ c ∷ []) (p + stated (drop p s))
 ahead-more s q [] p c a w =
@@ -161,13 +162,13 @@ pub record Found (s : List ℕ) (full x : Bool) (before : List Section) (p k : �
   pub inside : p + stated (drop p s) ≤ length s
   pub few : k ≤ 2 * stated (drop p s)
 
-accepted-found : {k : ℕ} (o : Outcome Section) → Accepted k ≡ told sectionRows o → (c : Section) × ((o ≡ found c) × (k ≡ sectionRows c))
-unfolding told
+accepted-found : {k : ℕ} (o : Outcome Section) → Accepted k ≡ asAnswer sectionRows o → (c : Section) × ((o ≡ found c) × (k ≡ sectionRows c))
+unfolding asAnswer
 accepted-found (refused f) e = absurd (let y : _≡_ {A = ℕ} 0 1 = cc in omega arith)
 accepted-found {k} (found c) e = let q : k ≡ sectionRows c = cc in (c, (refl, q))
 
 pub found-here : {k : ℕ} (s : List ℕ) (full x : Bool) (before : List Section) (p : ℕ) → p < length s
-    → Accepted k ≡ told sectionRows (section full x before p (drop p s)) → Found s full x before p k
+    → Accepted k ≡ asAnswer sectionRows (section full x before p (drop p s)) → Found s full x before p k
 found-here {k} s full x before p h e =
     let a = accepted-found (section full x before p (drop p s)) e in
     let w = stands full x before p (drop p s) (a .0) (a .1 .0) in
@@ -177,24 +178,24 @@ found-here {k} s full x before p h e =
     let n : k ≡ sectionRows (a .0) = a .1 .1 in
     record { section = a .0; read = a .1 .0; stands = w; rows = n; four = w .four; inside = omega arith; few = omega arith }
 
-refused-on : {n q : ℕ} {B : Type 0} (o : Outcome Section) (next : Section → Outcome B) (second : B → ℕ) → Refused n q ≡ told sectionRows o
-    → Refused n q ≡ told second (andThen o next)
-unfolding told andThen
+refused-on : {n q : ℕ} {B : Type 0} (o : Outcome Section) (next : Section → Outcome B) (second : B → ℕ) → Refused n q ≡ asAnswer sectionRows o
+    → Refused n q ≡ asAnswer second (andThen o next)
+unfolding asAnswer andThen
 refused-on (refused f) next second e = e
 refused-on (found c) next second e = absurd (let y : _≡_ {A = ℕ} 0 1 = cc in omega arith)
 
 -- A refusal of the section at p is the answer.
 pub refused-here : {n m q : ℕ} {seen : List Bool} (s : List ℕ) (full x : Bool) (p : ℕ) (w : SectionsRead s full x p n seen) → p < length s
-    → Refused m q ≡ told sectionRows (section full x (w .before) p (drop p s)) → Refused m q ≡ sectionsAnswer s full x
+    → Refused m q ≡ asAnswer sectionRows (section full x (w .before) p (drop p s)) → Refused m q ≡ sectionsAnswer s full x
 refused-here s full x p w h e =
     let l = length-drop p s in
     refused-on (section full x (w .before) p (drop p s)) _ rowCount e
-    ∙ ap (told rowCount) (sym (sections-more full x (w .before) p (drop p s) (omega arith)) ∙ w .same)
+    ∙ ap (asAnswer rowCount) (sym (sections-more full x (w .before) p (drop p s) (omega arith)) ∙ w .same)
 
 -- Fewer than four bytes are no section.
 pub short-here : (s : List ℕ) (full x : Bool) (before : List Section) (p : ℕ) → p ≤ length s → length s < p + 4
-    → Refused 6 p ≡ told sectionRows (section full x before p (drop p s))
-unfolding told section need
+    → Refused 6 p ≡ asAnswer sectionRows (section full x before p (drop p s))
+unfolding asAnswer section need
 short-here s full x before p h e =
     let l = length-drop p s in
     let b : leb 4 (length (drop p s)) ≡ false = lt-leb 4 (length (drop p s)) (omega arith) in
@@ -202,8 +203,8 @@ short-here s full x before p h e =
 
 -- An unknown id is no section.
 pub unknown-here : (s : List ℕ) (full x : Bool) (before : List Section) (p : ℕ) → p + 4 ≤ length s → sectionKind (idOf (drop p s)) ≡ none
-    → Refused 7 p ≡ told sectionRows (section full x before p (drop p s))
-unfolding told section need
+    → Refused 7 p ≡ asAnswer sectionRows (section full x before p (drop p s))
+unfolding asAnswer section need
 unknown-here s full x before p h e =
     let l = length-drop p s in
     let b : leb 4 (length (drop p s)) ≡ true = le-leb 4 (length (drop p s)) (omega arith) in
@@ -257,21 +258,21 @@ read-none s full x seen h z = record {
 
 -- All is read.
 pub read-end : {n : ℕ} {seen : List Bool} (s : List ℕ) (full x : Bool) (p : ℕ) (w : SectionsRead s full x p n seen) → length s ≤ p
-    → sectionsAnswer s full x ≡ told rowCount (need (not full || getD seen 20 false) (fault 20 p 0) (found (w .before)))
+    → sectionsAnswer s full x ≡ asAnswer rowCount (need (not full || getD seen 20 false) (fault 20 p 0) (found (w .before)))
 read-end {n} {seen} s full x p w h =
     let l = length-drop p s in
-    ap (told rowCount) (sym (w .same) ∙ sections-none full x (w .before) p (drop p s) (omega arith))
-    ∙ ap (λ (b : Bool). told rowCount (need (not full || b) (fault 20 p 0) (found (w .before)))) (w .marked information refl refl)
+    ap (asAnswer rowCount) (sym (w .same) ∙ sections-none full x (w .before) p (drop p s) (omega arith))
+    ∙ ap (λ (b : Bool). asAnswer rowCount (need (not full || b) (fault 20 p 0) (found (w .before)))) (w .marked information refl refl)
 
 pub read-whole : {n : ℕ} {seen : List Bool} (s : List ℕ) (full x : Bool) (p : ℕ) (w : SectionsRead s full x p n seen) → length s ≤ p
     → (not full || getD seen 20 false) ≡ true → Accepted n ≡ sectionsAnswer s full x
-unfolding told need
+unfolding asAnswer need
 read-whole {n} {seen} s full x p w h e =
     ap Accepted (w .rows)
-    ∙ sym (read-end s full x p w h ∙ ap (λ (b : Bool). told rowCount (need b (fault 20 p 0) (found (w .before)))) e)
+    ∙ sym (read-end s full x p w h ∙ ap (λ (b : Bool). asAnswer rowCount (need b (fault 20 p 0) (found (w .before)))) e)
 
 pub read-missing : {n : ℕ} {seen : List Bool} (s : List ℕ) (full x : Bool) (p : ℕ) (w : SectionsRead s full x p n seen) → length s ≤ p
     → (not full || getD seen 20 false) ≡ false → Refused 20 p ≡ sectionsAnswer s full x
-unfolding told need
+unfolding asAnswer need
 read-missing {n} {seen} s full x p w h e =
-    sym (read-end s full x p w h ∙ ap (λ (b : Bool). told rowCount (need b (fault 20 p 0) (found (w .before)))) e)
+    sym (read-end s full x p w h ∙ ap (λ (b : Bool). asAnswer rowCount (need b (fault 20 p 0) (found (w .before)))) e)

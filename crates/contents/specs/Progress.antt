@@ -5,11 +5,11 @@ use mathlib.Core.List.{List, [], _∷_, _++_}
 use mathlib.Core.Option.{some}
 use Prim.Native.Nat.{ℕ, _+_, _*_, _<_, _≤_}
 use lib.ListN.{length, getD, drop}
-use Rattle.format.specs.Layout.{least}
+use Rattle.format.specs.Slots.{least}
 use Rattle.format.specs.Forms.{ruleIdForm}
-use Rattle.format.specs.Parts.{Kind, rule, isSubsection, sectionId, sameKind, sectionKind, layout}
+use Rattle.format.specs.Parts.{Kind, rule, isSubsection, sectionId, sameKind, layout}
+use Rattle.format.specs.Reading.{sectionKind, idOf, stated, partIn, kindBefore, rowCount, asAnswer}
 use Rattle.format.specs.Rules.{Section}
-use Rattle.format.specs.Reading.{idOf, stated, partIn, kindBefore, rowCount, told}
 use Rattle.format.proofs.Turns.{sectionsFrom}
 use Rattle.format.specs.declared.Answer.{Answer}
 use Rattle.format.specs.declared.Answer.the-variants.{Refused}
@@ -28,7 +28,7 @@ pub record Stands (r : List ℕ) (c : Section) : Type 0 where
   pub few : sectionRows c ≤ 2 * stated r
   pub ruleId : isRule c ≡ true → ruleIdForm (firstField c) ≡ true
 
--- the sections stand one behind another from q to p
+-- the sections stand one after another from q to p
 abbrev pub Ahead : List ℕ → ℕ → List Section → ℕ → Type 0
 Ahead s q [] p = q ≡ p
 Ahead s q (c ∷ cs) p = Stands (drop q s) c × Ahead s (q + stated (drop q s)) cs p
@@ -50,13 +50,13 @@ pub record SectionsRead (s : List ℕ) (full x : Bool) (p n : ℕ) (seen : List 
 
 -- the answer of reading the sections of s
 abbrev pub sectionsAnswer : List ℕ → Bool → Bool → Answer
-sectionsAnswer s full x = told rowCount (sectionsFrom full x [] 8 (drop 8 s))
+sectionsAnswer s full x = asAnswer rowCount (sectionsFrom full x [] 8 (drop 8 s))
 
 -- the same for some kind of token and some marks
 abbrev pub SomeRead : List ℕ → Bool → ℕ → ℕ → Type 0
 SomeRead s full p n = (x : Bool) × ((seen : List Bool) × SectionsRead s full x p n seen)
 
--- a run of rules from p on: it ends behind p with the rows so far, or its refusal is the answer
+-- a run of rules from p on: it ends after p with the rows so far, or its refusal is the answer
 abbrev pub Ran : List ℕ → Bool → Bool → List Bool → ℕ → Run → Type 0
 Ran s full x seen p (Next q n) = SectionsRead s full x q n seen × (p < q)
 Ran s full x seen p (Fault m q) = Refused m q ≡ sectionsAnswer s full x

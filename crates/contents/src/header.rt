@@ -2,7 +2,7 @@
 ghost use mathlib.Core.Path.{_≡_};
 ghost use Prim.Native.Nat.{_≤_};
 ghost use lib.ListN.{length};
-ghost use Rattle.format.specs.Legal.{knownId};
+ghost use Rattle.format.specs.Parts.{knownId};
 ghost use Rattle.format.specs.Reading.{lengthAllowed, headerChecks};
 ghost use Rattle.sections.specs.Refusals.{firstRefusal};
 use fields::four;

@@ -5,7 +5,7 @@ ghost use Prim.Native.Nat.{_+_, _≤_};
 ghost use lib.ListN.{length, drop};
 ghost use Rattle.format.specs.Bytes.{number, bytesAt};
 ghost use Rattle.format.specs.Rules.{Section};
-ghost use Rattle.format.specs.Reading.{told, section};
+ghost use Rattle.format.specs.Reading.{asAnswer, section};
 ghost use Rattle.format.specs.declared.Answer.the-variants.{Accepted};
 ghost use Rattle.sections.specs.Refusals.{sectionRows, unless};
 ghost use Rattle.contents.specs.Progress.{Marked};
@@ -29,7 +29,7 @@ fn alone(refusal: u32, p: usize) -> Answer
 // The section at p, which is no rule and of which four bytes are there; seen says, at its id, whether its kind stands before.
 pub(crate) fn other_at(s: &[u8], p: usize, external: bool, full: bool, seen: &[bool; 22]) -> Answer
     requires { ⌜ (p + 4 ≤ length (now s)) × (length (now s) ≤ 3500) × (number (bytesAt (now s) p 1) ≡ 18 → ⊥) ⌝ }
-    ensures { λ r. ⌜ ((before : List Section) → Marked (now (seen .entry)) before → r ≡ told sectionRows (section full external before p (drop p (now (s .entry))))) ⌝ }
+    ensures { λ r. ⌜ ((before : List Section) → Marked (now (seen .entry)) before → r ≡ asAnswer sectionRows (section full external before p (drop p (now (s .entry))))) ⌝ }
 {
     match s[p] {
         17 => alone(public_key_at(s, p, seen[17]), p),

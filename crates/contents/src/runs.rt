@@ -16,7 +16,7 @@ use format::Answer;
 use rule_ids::put;
 use rules::rule_at;
 
-// A run of rules: the place behind it and the rows so far, or its refusal.
+// A run of rules: the place after it and the rows so far, or its refusal.
 pub(crate) enum Run {
     Next(usize, u32),
     Fault(u32, u32),
@@ -44,7 +44,7 @@ fn note_before(s: &[u8], ids: &mut [u64; 704], p: usize)
     }
 }
 
-// The rules that follow each other from the rule at first on, behind the rows so far.
+// The rules that follow each other from the rule at first on, after the rows so far.
 pub(crate) fn rules(s: &[u8], first: usize, rows: u32, full: bool) -> Run
     requires { ⌜ (first + 4 ≤ length (now s)) × (length (now s) ≤ 3500) × (number (bytesAt (now s) first 1) ≡ 18) × SomeRead (now s) full first rows ⌝ }
     ensures { λ r. ⌜ ((x : Bool) (seen : List Bool) → SectionsRead (now (s .entry)) full x first rows seen → Ran (now (s .entry)) full x seen first r) ⌝ }

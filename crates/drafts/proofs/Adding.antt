@@ -12,8 +12,8 @@ use lib.Seq.{drop-at, drop-drop, length-take-le}
 use borrow.Author.Tests.{eqb-true, eq-eqb, ne-eqb}
 use Rattle.format.specs.Bytes.{All, Bytes}
 use Rattle.format.specs.Layout.{write}
-use Rattle.format.specs.Parts.{Kind, sectionId, layout, span, writeParts}
-use Rattle.format.specs.Rules.{external, Section}
+use Rattle.format.specs.Parts.{Kind, sectionId, layout, span, writeParts, external}
+use Rattle.format.specs.Rules.{Section}
 use Rattle.format.specs.Reading.{refused, found, fault, idOf, stated, headerChecks, reading}
 use Rattle.format.specs.Writer.{draftAfter}
 use Rattle.format.proofs.Tests.{Hold, need-passed, need-failed}

@@ -10,9 +10,8 @@ use lib.ListN.{length, take, drop}
 use borrow.Author.Tests.{eqb-true, ne-eqb}
 use Rattle.format.specs.Bytes.{All, Bytes}
 use Rattle.format.specs.Layout.{Fields, fits, write}
-use Rattle.format.specs.Parts.{Kind, sectionId, isSubsection, layout, Part, size, span, joins}
-use Rattle.format.specs.Rules.{external, Section}
-use Rattle.format.specs.Legal.{knownId}
+use Rattle.format.specs.Parts.{Kind, sectionId, isSubsection, layout, Part, size, span, joins, external, knownId}
+use Rattle.format.specs.Rules.{Section}
 use Rattle.format.specs.Reading.{Fault, Outcome, refused, found, fault, need, andThen, idOf, stated, reading, partsOf}
 use Rattle.format.specs.Writer.{writeAnswer, draftAfter, longer, addition}
 use Rattle.format.specs.declared.Answer.{Answer}
@@ -35,7 +34,7 @@ use Rattle.drafts.proofs.Joining.{section-joins, sub-joins-last, sub-al
 
 -- ---- outcomes
 
--- The same test, and the same behind it where it passes.
+-- The same test, and the same after it where it passes.
 same-need : {A : Type 0} (b c : Bool) (f : Fault) (x y : Outcome A) → b ≡ c → (b ≡ true → x ≡ y) → need b f x ≡ need c f y
 unfolding need
 same-need true true f x y e h = h refl
@@ -74,7 +73,7 @@ made k fs w t e l =
     let n : length w ≡ size (record { kind = k; fields = fs }) = ap length e ∙ size-any (layout k) t 0 fs in
     (n, e ∙ ap (λ (u : ℕ). write u (layout k) fs) (l ∙ n))
 
--- The same bytes behind 23.
+-- The same bytes after 23.
 same-appended : (d w g : List ℕ) (o n : ℕ) → length w ≡ n → grown d o w ≡ g
     → need (leb (stated d + n) 3500 && leb (stated d + n) (length d)) (fault 23 (stated d) 0) (andThen (reading false g) (λ ts. found g))
     ≡ appended d o w
@@ -120,7 +119,7 @@ section-made k fs d w t s f m l a = same-written d (sym (section-same k fs d w t
 
 -- ---- a subsection
 
--- The last section stands behind the others.
+-- The last section stands after the others.
 pub last-behind : (a : ℕ) (pre ts : List Section) (t : Section) → All Grouped ts
     → lastPlace a (sectionsEnd pre) (ts ++ t ∷ []) ≡ sectionsEnd (pre ++ ts)
 last-behind a pre [] t g = ap sectionsEnd (sym (append-nil pre))

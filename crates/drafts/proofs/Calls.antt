@@ -1,4 +1,4 @@
--- The draft's own fault, and where an addition goes on behind it. Assumes nothing.
+-- The draft's own fault, and where an addition goes on after it. Assumes nothing.
 use mathlib.Core.Path.{_≡_, refl, sym, ap, ap₂, _∙_}
 use mathlib.Core.Bool.{false, _&&_}
 use mathlib.Core.List.{List}
@@ -11,7 +11,7 @@ use lib.ListN.{length, getD, drop, length-drop}
 use lib.Seq.{getD-drop}
 use borrow.Author.Tests.{leb-true}
 use Rattle.format.specs.Rules.{Section}
-use Rattle.format.specs.Reading.{Fault, Outcome, refused, found, fault, andThen, told, idOf, stated, headerChecks, reading, rowCount}
+use Rattle.format.specs.Reading.{Fault, Outcome, refused, found, fault, andThen, asAnswer, idOf, stated, headerChecks, reading, rowCount}
 use Rattle.format.specs.Writer.{writeAnswer, draftAfter}
 use Rattle.format.specs.declared.Answer.{Answer}
 use Rattle.format.specs.declared.Answer.the-variants.{Accepted, Refused}
@@ -25,7 +25,7 @@ use Rattle.drafts.proofs.Outcomes.{RefusedBy, told-refused, told-found,
 -- ---- the draft's own reading
 
 -- An accepted answer: the draft reads,
-pub reads : {n : ℕ} (d : List ℕ) → Accepted n ≡ told rowCount (reading false d) → Reads d
+pub reads : {n : ℕ} (d : List ℕ) → Accepted n ≡ asAnswer rowCount (reading false d) → Reads d
 reads d a = told-found rowCount (reading false d) a
 
 -- and its bytes are there.
@@ -38,7 +38,7 @@ header-stands d r =
     record { least = e; most = a .most; there = a .ends; head = omega arith; ends = omega arith; apart = inl refl }
 
 -- The draft's own fault is the answer of every call, and the draft is as it was.
-pub fault-first : {n p : ℕ} (d : List ℕ) (next : List Section → Outcome (List ℕ)) → Refused n p ≡ told rowCount (reading false d)
+pub fault-first : {n p : ℕ} (d : List ℕ) (next : List Section → Outcome (List ℕ)) → Refused n p ≡ asAnswer rowCount (reading false d)
     → (Refused n p ≡ writeAnswer (andThen (reading false d) next)) × (d ≡ draftAfter (andThen (reading false d) next) d)
 fault-first d next a =
     let r = told-refused rowCount (reading false d) a in
@@ -46,14 +46,14 @@ fault-first d next a =
     (record { cause = r .cause; is = then-refused next (r .is); number = r .number; place = r .place })
 
 -- Where the draft reads, a refusal stays.
-pub fault-else : {r : ℕ} (d : List ℕ) (n p : ℕ) → Accepted r ≡ told rowCount (reading false d) → Refused n p ≡ writeAnswer (refusedAfter d n p)
+pub fault-else : {r : ℕ} (d : List ℕ) (n p : ℕ) → Accepted r ≡ asAnswer rowCount (reading false d) → Refused n p ≡ writeAnswer (refusedAfter d n p)
 fault-else d n p a =
     let r = reads d a in
     refused-written (refusedAfter d n p) d (record { cause = fault n p 0; is = then-found _ (r .1); number = refl; place = refl }) .0
 
 -- ---- the answer where a field does not fit
 
-pub unfit-fault : {n p : ℕ} (d : List ℕ) → Refused n p ≡ told rowCount (reading false d) → Refused n p ≡ writeAnswer (unfit d)
+pub unfit-fault : {n p : ℕ} (d : List ℕ) → Refused n p ≡ asAnswer rowCount (reading false d) → Refused n p ≡ writeAnswer (unfit d)
 unfolding unfit
 unfit-fault d a = fault-first d _ a .0
 
@@ -66,12 +66,12 @@ unfit-else d r e =
 -- ---- a refusal that gives way to the draft's own fault
 
 -- The draft does not read: its own fault is the answer.
-pub unread : {r : Answer} (d : List ℕ) (next : List Section → Outcome (List ℕ)) → (Reads d → ⊥) → r ≡ told rowCount (reading false d)
+pub unread : {r : Answer} (d : List ℕ) (next : List Section → Outcome (List ℕ)) → (Reads d → ⊥) → r ≡ asAnswer rowCount (reading false d)
     → (r ≡ writeAnswer (andThen (reading false d) next)) × (d ≡ draftAfter (andThen (reading false d) next) d)
-unfolding told andThen
+unfolding asAnswer andThen
 unread d next n a = go (reading false d) refl a
   where
-    go : {r : Answer} (o : Outcome (List Section)) → reading false d ≡ o → r ≡ told rowCount o
+    go : {r : Answer} (o : Outcome (List Section)) → reading false d ≡ o → r ≡ asAnswer rowCount o
         → (r ≡ writeAnswer (andThen o next)) × (d ≡ draftAfter (andThen o next) d)
     go (refused f) e q = (q, refl)
     go (found ss) e q = absurd (n (ss, e))
@@ -79,7 +79,7 @@ unread d next n a = go (reading false d) refl a
 -- Two refusals with one number and one place are told alike.
 told-alike : (o : Outcome (List Section)) (n p : ℕ) (f : Fault) → n ≡ f .number → p ≡ f .part
     → (writeAnswer (andThen o (λ ss. refused (fault n p 0))) ≡ writeAnswer (andThen o (λ ss. refused f)))
-unfolding told andThen
+unfolding asAnswer andThen
 told-alike (refused g) n p f a b = refl
 told-alike (found ss) n p f a b = ap₂ Refused a b
 

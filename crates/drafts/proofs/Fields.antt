@@ -1,4 +1,4 @@
--- The tests of lent fields' lengths: a field that fits leaves it to those behind it, one that does not refuses for all.
+-- The tests of lent fields' lengths: a field that fits leaves it to those after it, one that does not refuses for all.
 -- Assumes nothing.
 use mathlib.Core.Path.{_≡_, refl, ap, _∙_}
 use mathlib.Core.Bool.{Bool, true, false, _&&_, and-false}
@@ -24,11 +24,11 @@ count-fits n m h e = both-yes (lt-ltb n (m + 1) (omega arith)) e
 pub count-unfit : (n m : ℕ) (b : Bool) → m < n → (ltb n (m + 1) && b) ≡ false
 count-unfit n m b h = first-not b (le-ltb n (m + 1) (omega arith))
 
--- the count, and its field directly behind it
+-- the count, and its field directly after it
 pub counted-fits : (n m : ℕ) {b : Bool} → n ≤ m → b ≡ true → (ltb n (m + 1) && (eqb n n && b)) ≡ true
 counted-fits n m h e = count-fits n m h (fixed-fits n n refl e)
 
--- ---- a field behind another
+-- ---- a field after another
 
 pub later-unfit : (a : Bool) {b : Bool} → b ≡ false → (a && b) ≡ false
 later-unfit a e = ap (λ (x : Bool). a && x) e ∙ and-false a

@@ -7,8 +7,8 @@ use native.Mathlib.Omega.{arith}
 use lib.ListN.{length, take, drop, take-append-drop}
 use lib.Seq.{take-all, drop-append-le, length-take-le}
 use Rattle.format.specs.Bytes.{All, Bytes}
-use Rattle.format.specs.Parts.{Part, Choice, writeParts, written}
-use Rattle.format.specs.Rules.{external, Section, sectionsOf}
+use Rattle.format.specs.Parts.{Part, Choice, writeParts, written, external}
+use Rattle.format.specs.Rules.{Section, sectionsOf}
 use Rattle.format.specs.Legal.{Lawful}
 use Rattle.format.specs.Reading.{found, idOf, stated, headerChecks, reading, partsOf}
 use Rattle.format.proofs.Numbers.{bytes-take}
@@ -33,7 +33,7 @@ use Rattle.drafts.proofs.Whole.{header-standing}
 
 -- ---- the first parts of a choice
 
--- A draft whose header passes its tests, and whose bytes behind it are the first parts of a choice that keeps the rules, reads.
+-- A draft whose header passes its tests, and whose bytes after it are the first parts of a choice that keeps the rules, reads.
 pub front-reads : (d : List ℕ) (ps rs : List Part) → Bytes d → Hold (headerChecks false d) → Choice (idOf d) (ps ++ rs) → Lawful (idOf d) (ps ++ rs)
     → writeParts ps ≡ drop 8 (take (stated d) d) → Reads d
 front-reads d ps rs b h c l w =
@@ -50,7 +50,7 @@ front-reads d ps rs b h c l w =
 
 -- ---- the longer draft
 
--- What is known of a longer draft that reads, r being its bytes behind the header and i its id.
+-- What is known of a longer draft that reads, r being its bytes after the header and i its id.
 pub record LongerRead (i : ℕ) (r : List ℕ) (ts : List Section) : Type 0 where
   pub body : r ≡ laid sectionBytes ts
   pub states : All (λ t. States (sectionBytes t)) ts

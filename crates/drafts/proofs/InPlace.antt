@@ -1,4 +1,4 @@
--- A part put behind the draft in its place, with two lengths, and taken out again. Assumes nothing.
+-- A part put after the draft in its place, with two lengths, and taken out again. Assumes nothing.
 use mathlib.Core.Path.{_≡_, sym, ap, ap₂, _∙_}
 use mathlib.Core.List.{List, _++_, append-assoc}
 use mathlib.Core.Logic.{_⊎_, ⊎-elim}
@@ -15,7 +15,7 @@ use Rattle.drafts.proofs.Tiling.{stated-front}
 use Rattle.drafts.proofs.Longer.{restate-long, restate-front, grown-long}
 use Rattle.drafts.proofs.Restating.{restate-over, restate-back}
 
--- Two lengths stated in the first bytes, those behind them as they are.
+-- Two lengths stated in the first bytes, those after them as they are.
 both-front : (o m n : ℕ) (a w r : List ℕ) → 4 ≤ length a → o + 4 ≤ length a
     → restate o m (restate 0 n (a ++ w ++ r)) ≡ restate o m (restate 0 n a) ++ w ++ r
 both-front o m n a w r h k =
@@ -28,7 +28,7 @@ both-front o m n a w r h k =
     ∙ restate-front o m (restate 0 n a ++ w) r (omega arith)
     ∙ ap (λ (y : List ℕ). y ++ r) (restate-front o m (restate 0 n a) w (omega arith))
 
--- The part in its place: the longer draft, and behind it what was there.
+-- The part in its place: the longer draft, and after it what was there.
 pub put-in : {l m : ℕ} (d : List ℕ) (o : ℕ) (w : List ℕ) → Standing d o → l ≡ stated d → m ≡ stated (drop o d)
     → stated d + length w ≤ length d
     → restate o (m + length w) (restate 0 (l + length w) (sets d l w)) ≡ grown d o w ++ drop (stated d + length w) d
@@ -54,7 +54,7 @@ back-header : (a : List ℕ) (l m i j : ℕ) → Bytes a → 4 ≤ length a → 
 back-header a l m i j b h el em =
     restate-over l m (restate 0 j (restate 0 i a)) ∙ restate-over j m (restate 0 i a) ∙ restate-back i m a b h em
 
--- or stands behind it.
+-- or stands after it.
 back-section : (f r : List ℕ) (o l m i j : ℕ) → Bytes f → Bytes r → 4 ≤ length f → 4 ≤ length r → length f ≡ o → stated f ≡ l → stated r ≡ m
     → restate o m (restate 0 l (restate o j (restate 0 i (f ++ r)))) ≡ f ++ r
 back-section f r o l m i j bf br hf hr e el em =
@@ -99,7 +99,7 @@ back d o i j b s =
     ∙ parts)
     (s .apart)
 
--- Bytes stored behind the first ones, over as many others.
+-- Bytes stored after the first ones, over as many others.
 stored-over : (x w v r : List ℕ) (l : ℕ) → length x ≡ l → length v ≡ length w → sets (x ++ w ++ r) l v ≡ x ++ v ++ r
 stored-over x w v r l e h =
     let n = length-append x w in

@@ -1,4 +1,4 @@
--- The sections of a draft as bytes laid one behind another, and the last of them. Assumes nothing.
+-- The sections of a draft as bytes laid one after another, and the last of them. Assumes nothing.
 use mathlib.Core.Path.{_≡_, refl, sym, ap, _∙_, subst}
 use mathlib.Core.Bool.{Bool, false}
 use mathlib.Core.List.{List, [], _∷_, _++_, append-nil}
@@ -8,8 +8,8 @@ use lib.ListN.{length, take, drop, length-append, length-drop}
 use lib.Seq.{length-take-le}
 use Rattle.format.specs.Bytes.{All, Bytes}
 use Rattle.format.specs.Layout.{write}
-use Rattle.format.specs.Parts.{layout, Part, size, span, writeParts}
-use Rattle.format.specs.Rules.{external, Section}
+use Rattle.format.specs.Parts.{layout, Part, size, span, writeParts, external}
+use Rattle.format.specs.Rules.{Section}
 use Rattle.format.specs.Reading.{found, idOf, stated, reading, partsOf}
 use Rattle.format.proofs.Unique.{size-any, size-pos}
 use Rattle.format.proofs.Grouping.{Grouped, Subs, span-section, span-sub}
@@ -79,7 +79,7 @@ subs-state x (u ∷ us) g h =
 
 -- ---- a draft that reads
 
--- Behind its header stand its sections.
+-- After its header stand its sections.
 pub record Laid (d : List ℕ) (ss : List Section) : Type 0 where
   pub bytes : drop 8 (take (stated d) d) ≡ laid sectionBytes ss
   pub states : All (λ t. States (sectionBytes t)) ss

@@ -13,7 +13,7 @@ use Rattle.drafts.specs.Adding.{Standing, grown}
 
 -- ---- another length in a part
 
--- A number stored behind the first two bytes of a part is its new length.
+-- A number stored after the first two bytes of a part is its new length.
 pub length-stored : {old new : List ℕ} {next : ℕ} (at n : ℕ) → Stored old (at + 2) (bigEndian 2 n) new next → new ≡ restate at n old
 length-stored {old} at n s =
     let e : suc (at + 2) ≡ at + 3 = omega arith in
@@ -23,7 +23,7 @@ length-stored {old} at n s =
 pub restate-long : (at n : ℕ) (bs : List ℕ) → length (restate at n bs) ≡ length bs
 restate-long at n bs = length-set (set bs (at + 2) (n / 256 % 256)) (at + 3) (n % 256) ∙ length-set bs (at + 2) (n / 256 % 256)
 
--- and whatever stands behind the bytes that hold the part.
+-- and whatever stands after the bytes that hold the part.
 pub restate-front : (at n : ℕ) (a b : List ℕ) → at + 4 ≤ length a → restate at n (a ++ b) ≡ restate at n a ++ b
 restate-front at n a b h =
     ap (λ (y : List ℕ). set y (at + 3) (n % 256)) (set-append-left a b (at + 2) (n / 256 % 256) (omega arith))

@@ -7,7 +7,7 @@ use native.Mathlib.Omega.{arith}
 use lib.Dec.{leb}
 use lib.ListN.{length, drop}
 use borrow.Author.Tests.{le-leb, lt-leb}
-use Rattle.format.specs.Reading.{Fault, Outcome, refused, found, fault, andThen, told, stated, reading, rowCount}
+use Rattle.format.specs.Reading.{Fault, Outcome, refused, found, fault, andThen, asAnswer, stated, reading, rowCount}
 use Rattle.format.specs.Writer.{writeAnswer, draftAfter}
 use Rattle.format.specs.declared.Answer.{Answer}
 use Rattle.format.specs.declared.Answer.the-variants.{Accepted, Refused}
@@ -24,8 +24,8 @@ pub record RefusedBy {A : Type 0} (o : Outcome A) (n p : ℕ) : Type 0 where
   pub number : n ≡ cause .number
   pub place : p ≡ cause .part
 
-pub told-refused : {A : Type 0} {n p : ℕ} (count : A → ℕ) (o : Outcome A) → Refused n p ≡ told count o → RefusedBy o n p
-unfolding told
+pub told-refused : {A : Type 0} {n p : ℕ} (count : A → ℕ) (o : Outcome A) → Refused n p ≡ asAnswer count o → RefusedBy o n p
+unfolding asAnswer
 told-refused {A} {n} {p} count (refused f) e =
     let a : n ≡ f .number = cc in
     let b : p ≡ f .part = cc in
@@ -33,8 +33,8 @@ told-refused {A} {n} {p} count (refused f) e =
 told-refused count (found a) e = absurd (let y : _≡_ {A = ℕ} 0 1 = cc in omega arith)
 
 -- and an accepted one from something found.
-pub told-found : {A : Type 0} {n : ℕ} (count : A → ℕ) (o : Outcome A) → Accepted n ≡ told count o → (a : A) × (o ≡ found a)
-unfolding told
+pub told-found : {A : Type 0} {n : ℕ} (count : A → ℕ) (o : Outcome A) → Accepted n ≡ asAnswer count o → (a : A) × (o ≡ found a)
+unfolding asAnswer
 told-found count (refused f) e = absurd (let y : _≡_ {A = ℕ} 0 1 = cc in omega arith)
 told-found count (found a) e = (a, refl)
 
@@ -42,14 +42,14 @@ told-found count (found a) e = (a, refl)
 
 -- A refusal is told with its number and place, and leaves the draft as it was.
 pub refused-written : {n p : ℕ} (o : Outcome (List ℕ)) (d : List ℕ) → RefusedBy o n p → (Refused n p ≡ writeAnswer o) × (d ≡ draftAfter o d)
-unfolding told
+unfolding asAnswer
 refused-written o d r =
     (ap₂ Refused (r .number) (r .place) ∙ sym (ap writeAnswer (r .is)), sym (ap (λ (y : Outcome (List ℕ)). draftAfter y d) (r .is)))
 
 -- What is found is told with its length, and stands in the draft from its start on.
 pub found-written : {n : ℕ} (o : Outcome (List ℕ)) (d bs : List ℕ) → o ≡ found bs → n ≡ length bs
     → (Accepted n ≡ writeAnswer o) × (bs ++ drop (length bs) d ≡ draftAfter o d)
-unfolding told
+unfolding asAnswer
 found-written o d bs e l = (ap Accepted l ∙ sym (ap writeAnswer e), sym (ap (λ (y : Outcome (List ℕ)). draftAfter y d) e))
 
 -- The answer and the draft of one outcome are those of another that is the same.
@@ -57,7 +57,7 @@ pub same-written : {a : Answer} {new : List ℕ} {o u : Outcome (List ℕ)} (d :
     → (a ≡ writeAnswer u) × (new ≡ draftAfter u d)
 same-written d e a b = (a ∙ ap writeAnswer e, b ∙ ap (λ (y : Outcome (List ℕ)). draftAfter y d) e)
 
--- ---- the draft with a part behind it
+-- ---- the draft with a part after it
 
 -- The test for room.
 abbrev fitting : List ℕ → List ℕ → Bool
@@ -94,7 +94,7 @@ has-room d o w h k =
 
 -- Its refusal is the answer,
 pub longer-refused : {n p : ℕ} {bs : List ℕ} (d : List ℕ) (o : ℕ) (w : List ℕ) → stated d + length w ≤ 3500
-    → stated d + length w ≤ length d → bs ≡ grown d o w → Refused n p ≡ told rowCount (reading false bs)
+    → stated d + length w ≤ length d → bs ≡ grown d o w → Refused n p ≡ asAnswer rowCount (reading false bs)
     → (Refused n p ≡ writeAnswer (appended d o w)) × (d ≡ draftAfter (appended d o w) d)
 longer-refused {n} {p} {bs} d o w h k e a =
     let r = told-refused rowCount (reading false bs) a in
@@ -104,7 +104,7 @@ longer-refused {n} {p} {bs} d o w h k e a =
 
 -- and where it is accepted it stands in the draft.
 pub longer-found : {n m : ℕ} {bs new : List ℕ} (d : List ℕ) (o : ℕ) (w : List ℕ) → Standing d o → stated d + length w ≤ 3500
-    → stated d + length w ≤ length d → bs ≡ grown d o w → Accepted m ≡ told rowCount (reading false bs)
+    → stated d + length w ≤ length d → bs ≡ grown d o w → Accepted m ≡ asAnswer rowCount (reading false bs)
     → n ≡ stated d + length w → new ≡ grown d o w ++ drop (stated d + length w) d
     → (Accepted n ≡ writeAnswer (appended d o w)) × (new ≡ draftAfter (appended d o w) d)
 longer-found {n} {m} {bs} {new} d o w s h k e a l t =

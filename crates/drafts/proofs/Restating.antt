@@ -9,7 +9,7 @@ use Rattle.format.specs.Bytes.{Bytes, number, bytesAt}
 use Rattle.format.specs.Reading.{idOf, stated}
 use Rattle.format.proofs.Changes.{restate}
 
--- What stands behind the length,
+-- What stands after the length,
 behind : (j n : ℕ) (bs : List ℕ) → drop (suc (suc (suc (suc j)))) (restate 0 n bs) ≡ drop (suc (suc (suc (suc j)))) bs
 behind j n [] = refl
 behind j n (a ∷ []) = refl
@@ -74,7 +74,7 @@ restate-bytes o n bs b =
 
 -- ---- the id in the first bytes
 
--- Bytes behind do not change it,
+-- Bytes after do not change it,
 pub id-front : (a y : List ℕ) → 1 ≤ length a → idOf (a ++ y) ≡ idOf a
 unfolding bytesAt
 id-front a y h = ap number (take-append-le 1 a y h)

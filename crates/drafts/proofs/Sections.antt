@@ -10,8 +10,8 @@ use lib.Seq.{drop-at}
 use borrow.Author.Tests.{ltb-true}
 use Rattle.format.specs.Bytes.{All, Bytes, number, bytesAt}
 use Rattle.format.specs.Layout.{Item, Fields, write}
-use Rattle.format.specs.Parts.{Kind, sectionId, tag, body, isSubsection, frame, layout, header, Part, span, writeParts}
-use Rattle.format.specs.Rules.{external, Section}
+use Rattle.format.specs.Parts.{Kind, sectionId, tag, body, isSubsection, frame, layout, header, Part, span, writeParts, external}
+use Rattle.format.specs.Rules.{Section}
 use Rattle.format.specs.Reading.{found, idOf, stated, reading, partsOf}
 use Rattle.format.proofs.Finding.{every-kind}
 use Rattle.format.proofs.Unique.{size-any, size-pos, written-length}
@@ -39,7 +39,7 @@ sections-cut ts [] h = ap (λ (x : List Section). writeParts (partsOf x)) (appen
 sections-cut ts (u ∷ us) h =
     ap writeParts (parts-join ts (u ∷ us)) ∙ parts-then-section (partsOf ts) (u .head) (u .subs ++ partsOf us) (h .0 .0)
 
--- The bytes of a section, and those behind it.
+-- The bytes of a section, and those after it.
 pub section-then : (t : Section) (us : List Section) → All Grouped us
     → writeParts (partsOf (t ∷ us)) ≡ writeParts (t .head ∷ t .subs) ++ writeParts (partsOf us)
 section-then t [] h =
@@ -58,7 +58,7 @@ section-long t g =
 
 -- ---- places
 
--- The place behind one section more.
+-- The place after one section more.
 pub place-more : (ts : List Section) (t : Section) → Grouped t → sectionsEnd (ts ++ t ∷ []) ≡ sectionsEnd ts + span (t .head) (t .subs)
 place-more ts t g =
     let a = ap length (sections-cut ts (t ∷ []) (g, tt)) in
@@ -79,7 +79,7 @@ unfolding number bytesAt
 id-framed true i g t l fs z e h = absurd (let q : _≡_ {A = ℕ} 0 1 = cc in omega arith)
 id-framed false i g t l fs z e h = omega arith
 
--- Behind the sections ts stands the section t: what the bytes there state is its length and its id.
+-- After the sections ts stands the section t: what the bytes there state is its length and its id.
 pub record StandsAt (d : List ℕ) (ts : List Section) (t : Section) : Type 0 where
   pub length-there : stated (drop (sectionsEnd ts) d) ≡ span (t .head) (t .subs)
   pub id-there : idOf (drop (sectionsEnd ts) d) ≡ sectionId (t .head .kind)

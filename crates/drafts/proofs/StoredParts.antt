@@ -25,7 +25,7 @@ one-stored {old} {new} {at} {next} {x} h s =
     let e : x ≡ x % 256 = omega arith in
     stored-as (ap (λ (y : ℕ). y ∷ []) e) s
 
--- the last field: nothing stands behind it
+-- the last field: nothing stands after it
 pub stored-last : {old new : List ℕ} {at next : ℕ} {xs : List ℕ} → Stored old at xs new next → Stored old at (xs ++ []) new next
 stored-last {old} {new} {at} {next} {xs} s = stored-as (sym (append-nil xs)) s
 

@@ -11,9 +11,10 @@ use lib.ListN.{length, take, drop, length-append, length-drop, take-append-drop}
 use lib.Seq.{take-at, drop-at, take-append-le, drop-append-le, drop-drop, length-take-le}
 use borrow.Author.Tests.{eqb-true}
 use Rattle.format.specs.Bytes.{All, Bytes}
-use Rattle.format.specs.Layout.{write, least, fits}
-use Rattle.format.specs.Parts.{Kind, sectionId, tag, body, isSubsection, layout, Part, size, span, writeParts, Choice}
-use Rattle.format.specs.Rules.{external, Section}
+use Rattle.format.specs.Layout.{write, fits}
+use Rattle.format.specs.Slots.{least}
+use Rattle.format.specs.Parts.{Kind, sectionId, tag, body, isSubsection, layout, Part, size, span, writeParts, Choice, external}
+use Rattle.format.specs.Rules.{Section}
 use Rattle.format.specs.Legal.{Lawful}
 use Rattle.format.specs.Reading.{found, idOf, stated, holdsSubs, headerChecks, reading, partsOf}
 use Rattle.format.proofs.Finding.{every-kind}
@@ -64,7 +65,7 @@ fixed-four i = go (eqb i 0x12)
 
 -- ---- the last section
 
--- The bytes z of a section that has w behind it and a longer length: it is the section with the first of the subsections.
+-- The bytes z of a section that has w after it and a longer length: it is the section with the first of the subsections.
 pub record Shorter (t : Section) (z : List ℕ) : Type 0 where
   pub front : List Part
   pub back : List Part

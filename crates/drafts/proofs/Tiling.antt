@@ -1,4 +1,4 @@
--- Things laid one behind another, each stating its length, and what stepping by stated lengths finds of them. Assumes nothing.
+-- Things laid one after another, each stating its length, and what stepping by stated lengths finds of them. Assumes nothing.
 use mathlib.Core.Path.{_≡_, refl, sym, ap, _∙_, subst}
 use mathlib.Core.List.{List, [], _∷_, _++_, append-assoc}
 use Prim.Native.Nat.{ℕ, _+_, _≤_, _<_}
@@ -11,7 +11,7 @@ use Rattle.drafts.specs.Tiling.{TiledTo, here, next, Tiled, LastAt}
 
 -- ---- stated lengths
 
--- Bytes behind do not change what is stated.
+-- Bytes after do not change what is stated.
 pub stated-front : (b y : List ℕ) → 4 ≤ length b → stated (b ++ y) ≡ stated b
 unfolding number bytesAt
 stated-front [] y h = absurd (omega arith)
@@ -25,7 +25,7 @@ pub record States (b : List ℕ) : Type 0 where
   pub four : 4 ≤ length b
   pub says : stated b ≡ length b
 
--- ---- things laid one behind another
+-- ---- things laid one after another
 
 abbrev pub laid : {A : Type 0} → (A → List ℕ) → List A → List ℕ
 laid f [] = []
@@ -69,7 +69,7 @@ pub tiled-more : {z r : List ℕ} → TiledTo z r → 4 ≤ stated z → stated 
 tiled-more here a b = next a b here
 tiled-more (next c d t) a b = next c d (tiled-more t a b)
 
--- Steps behind steps.
+-- Steps after steps.
 pub tiled-through : {z y r : List ℕ} → TiledTo y r → TiledTo z y → TiledTo z r
 tiled-through here u = u
 tiled-through (next a b t) u = next a b (tiled-through t u)

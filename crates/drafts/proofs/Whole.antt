@@ -37,7 +37,7 @@ header-standing d h =
     let a = l .least in
     record { least = a; most = l .most; there = l .within; head = omega arith; ends = omega arith; apart = inl refl }
 
--- The last section of a draft, from the last part behind its header.
+-- The last section of a draft, from the last part after its header.
 pub section-last : {h : ℕ} (d : List ℕ) (r : Last) → Bytes d → h ≡ firstRefusal (headerChecks false d) → h ≡ 0
     → LastOf (take (stated d) d) 8 r → LastSection d r
 section-last d (At p) b e z w = (all-hold (headerChecks false d) refl (sym z ∙ e), w)

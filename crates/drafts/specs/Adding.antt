@@ -17,7 +17,7 @@ lastPlace last at [] = last
 lastPlace last at (s ∷ ss) = lastPlace at (at + span (s .head) (s .subs)) ss
 
 -- the draft longer by the bytes w: its own bytes with the lengths that they make, the header's and that of the section at
--- place o, and w behind them. At place 0 stands the header itself
+-- place o, and w after them. At place 0 stands the header itself
 abbrev pub grown : List ℕ → ℕ → List ℕ → List ℕ
 grown d o w = restate o (stated (drop o d) + length w) (restate 0 (stated d + length w) (take (stated d) d)) ++ w
 

@@ -1,4 +1,4 @@
-// Internal: the draft with a part behind it. The part is put in its place, and taken out again where the longer draft is
+// Internal: the draft with a part after it. The part is put in its place, and taken out again where the longer draft is
 // refused, so that a refusal changes nothing.
 ghost use mathlib.Core.Path.{_≡_};
 ghost use Prim.Native.Nat.{_+_, _<_, _≤_};
@@ -22,7 +22,7 @@ fn state(bytes: &mut [u8], at: usize, n: usize)
     let _behind = put_two(bytes, at + 2, n);
 }
 
-// Exchanges a part with the bytes behind the draft's first l, and states two lengths: n in the header, and m in the section
+// Exchanges a part with the bytes after the draft's first l, and states two lengths: n in the header, and m in the section
 // at a place, which is the header again where a section is added. A second exchange with the old lengths undoes the first.
 fn exchange_part(draft: &mut [u8], l: usize, section: usize, n: usize, m: usize, part: &mut [u8])
     requires { ⌜ (l + length (now part) ≤ length (now draft)) × (section + 4 ≤ length (now draft)) × (n < 65536) × (m < 65536) ⌝ }
@@ -34,7 +34,7 @@ fn exchange_part(draft: &mut [u8], l: usize, section: usize, n: usize, m: usize,
     state(draft, section, m);
 }
 
-// Puts a part behind the draft: 23, then what reading the longer draft gives. The part is lent for the exchange.
+// Puts a part after the draft: 23, then what reading the longer draft gives. The part is lent for the exchange.
 pub(crate) fn append(draft: &mut [u8], section: usize, part: &mut [u8]) -> Answer
     requires { ⌜ Standing (now draft) section ⌝ }
     ensures answer { λ r. ⌜ r ≡ writeAnswer (appended (now (draft .entry)) section (now (part .entry))) ⌝ }

@@ -1,5 +1,5 @@
 // Internal: an addition to a draft, as bytes. What is added is lent as it is to stand in the draft.
-mod growing; // growing.rt: the draft with a part behind it
+mod growing; // growing.rt: the draft with a part after it
 pub mod heads; // heads.rt: how a part's bytes begin
 mod last; // last.rt: the parts of a draft, passed by their lengths
 
@@ -42,7 +42,7 @@ pub fn not_fitting(draft: &[u8]) -> Answer
     }
 }
 
-// Puts a part behind the draft, whose own fault comes before any other refusal.
+// Puts a part after the draft, whose own fault comes before any other refusal.
 fn append_or_fault(draft: &mut [u8], section: usize, part: &mut [u8]) -> Answer
     requires { ⌜ Standing (now draft) section ⌝ }
     ensures answer { λ r. ⌜ r ≡ writeAnswer (ownFirst (now (draft .entry)) (appended (now (draft .entry)) section (now (part .entry)))) ⌝ }

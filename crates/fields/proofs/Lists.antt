@@ -43,7 +43,7 @@ bytes-join : (s : List ℕ) (i n m : ℕ) → bytesAt s i (n + m) ≡ bytesAt s 
 unfolding bytesAt
 bytes-join s i n m = take-add n m (drop i s) ∙ ap (λ (l : List ℕ). take n (drop i s) ++ take m l) (drop-drop n i s)
 
--- those behind the first k, and the first k alone
+-- those after the first k, and the first k alone
 pub bytes-drop : (s : List ℕ) (i n k : ℕ) → i + n ≤ length s → k ≤ n
     → drop k (bytesAt s i n) ≡ bytesAt s (i + k) (n - k)
 bytes-drop s i n k h l =
@@ -90,7 +90,7 @@ from-weight (b ∷ bs) a =
     let r : numberFrom (0 * 256 + b) bs ≡ b * w + numberFrom 0 bs = from-weight bs (0 * 256 + b) ∙ rw z in
     omega (arith, from-weight bs (a * 256 + b))
 
--- one list behind another
+-- one list after another
 from-append : (xs ys : List ℕ) (a : ℕ) → numberFrom a (xs ++ ys) ≡ numberFrom (numberFrom a xs) ys
 from-append [] ys a = refl
 from-append (x ∷ xs) ys a = from-append xs ys (a * 256 + x)
@@ -115,7 +115,7 @@ number-below (b ∷ bs) h =
     let m : suc b * w ≤ 256 * w = mul-le-mul-right w (h .0) in
     omega (arith, m, number-first b bs, number-below bs (h .1), suc-mul b w, pow-succ' 256 (length bs))
 
--- n bytes at a place, and m behind them
+-- n bytes at a place, and m after them
 pub number-join : (s : List ℕ) (i n m : ℕ) → i + n + m ≤ length s
     → number (bytesAt s i (n + m)) ≡ number (bytesAt s i n) * 256 ^ m + number (bytesAt s (i + n) m)
 number-join s i n m h =

@@ -43,7 +43,7 @@ module _ (xs ys : List ℕ) (l : length xs ≡ length ys) where
 
 -- ---- from place to place
 
--- the bytes behind p, before e
+-- the bytes after p, before e
 abbrev behind : List ℕ → ℕ → ℕ → List ℕ
 behind s p e = bytesAt s (p + 1) (e - (p + 1))
 

@@ -126,7 +126,7 @@ module _ (f : ℕ → Bool) (lo hi : ℕ) (same : (b : ℕ) → f b ≡ ofClass 
       let z : leading f (bytesAt s i n) ≡ 0 = omega (arith, run-count) in
       ap (λ (k : ℕ). leb 1 k && every space (drop k (bytesAt s i n))) z
 
-  -- one or more, and spaces behind them
+  -- one or more, and spaces after them
   pub padded-run : {q : ℕ} → (p ≡ i → ⊥) → p ≤ i + n → q ≡ p + leading (ofClass 5 5) (bytesAt s p ((i + n) - p))
       → padded f (bytesAt s i n) ≡ eqb q (i + n)
   padded-run {q} e l r =

@@ -10,9 +10,9 @@ use lib.Seq.{take-at, take-all}
 use borrow.Author.Tests.{eq-eqb, eqb-true, le-leb, leb-true}
 use Rattle.format.specs.Bytes.{All, Bytes}
 use Rattle.format.specs.Layout.{fits}
-use Rattle.format.specs.Parts.{information, protection, layout, Part, writeParts, written, Choice, WrittenForm}
-use Rattle.format.specs.Rules.{external, checks, Section, sectionsOf, has, otherKind, maskCovers, hasRequired}
-use Rattle.format.specs.Legal.{Pairwise, knownId, Lawful, Complete, Legal}
+use Rattle.format.specs.Parts.{information, protection, layout, Part, writeParts, written, Choice, WrittenForm, external, knownId}
+use Rattle.format.specs.Rules.{checks, Section, sectionsOf, has, otherKind, maskCovers, hasRequired}
+use Rattle.format.specs.Legal.{Pairwise, Lawful, Complete, Legal}
 use Rattle.format.specs.Reading.{found, idOf, stated, kindBefore, sections, lengthAllowed, headerChecks, reading, partsOf}
 use Rattle.format.proofs.Numbers.{bytes-take, bytes-drop}
 use Rattle.format.proofs.Finding.{and-split, and-join}

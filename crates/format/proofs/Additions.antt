@@ -9,8 +9,8 @@ use lib.ListN.{length, take, drop, length-append, take-append-drop}
 use lib.Seq.{drop-at}
 use Rattle.format.specs.Bytes.{Bytes}
 use Rattle.format.specs.Layout.{fits, write}
-use Rattle.format.specs.Parts.{isSubsection, layout, Part, size, span, writeParts, written, joins, header}
-use Rattle.format.specs.Rules.{external, Section}
+use Rattle.format.specs.Parts.{isSubsection, layout, Part, size, span, writeParts, written, joins, header, external}
+use Rattle.format.specs.Rules.{Section}
 use Rattle.format.specs.Reading.{found, idOf, stated, reading, partsOf}
 use Rattle.format.specs.Writer.{addition}
 use Rattle.format.proofs.Finding.{sectionId-pos}
@@ -37,7 +37,7 @@ any-draft d ss b e =
     let l = ap length (r .form) ∙ lib.Seq.length-take-le n d ends in
     draft-of i (partsOf ss) d (drop n d) (good-choice false i ss (r .byte) (r .good)) (good-lawful false i ss (r .known) (r .good)) (omega arith) form
 
--- A section added changes the header's length and puts its bytes behind the draft's.
+-- A section added changes the header's length and puts its bytes after the draft's.
 pub section-changes : (d : List ℕ) (p : Part) (bs : List ℕ) → Bytes d → isSubsection (p .kind) ≡ false
     → addition (p .kind) (p .fields) d ≡ found bs
     → bs ≡ restate 0 (stated d + size p) (take (stated d) d) ++ write (size p) (layout (p .kind)) (p .fields)
@@ -63,7 +63,7 @@ joined : (p : Part) (ss : List Section) → isSubsection (p .kind) ≡ true → 
 joined p [] f j = absurd (let c = joins-first 0 p [] j f in let z = sectionId-pos (p .kind) in omega arith)
 joined p (s ∷ ss) f j = last-of s ss
 
--- The last section of a draft stands behind the others, and states its length there.
+-- The last section of a draft stands after the others, and states its length there.
 last-stated : (i : ℕ) (ts : List Section) (t : Section) (d : List ℕ) → Draft i (partsOf (ts ++ t ∷ [])) d
     → isSubsection (t .head .kind) ≡ false → fits [] (layout (t .head .kind)) (t .head .fields) ≡ true
     → stated (drop (sectionsEnd ts) d) ≡ span (t .head) (t .subs)
@@ -89,7 +89,7 @@ last-stated i ts t d w f fit =
     ap (drop (sectionsEnd ts)) form ∙ drop-at (H ++ A) (B ++ w .rest) (sectionsEnd ts) place ∙ append-assoc S (writeParts (t .subs)) (w .rest) in
     part-stated (t .head) (span (t .head) (t .subs)) (drop (sectionsEnd ts) d) (writeParts (t .subs) ++ w .rest) (omega arith) fit rest
 
--- A subsection added changes the header's length and that of the last section, and puts its bytes behind the draft's.
+-- A subsection added changes the header's length and that of the last section, and puts its bytes after the draft's.
 pub sub-changes : (d : List ℕ) (p : Part) (bs : List ℕ) → Bytes d → isSubsection (p .kind) ≡ true
     → addition (p .kind) (p .fields) d ≡ found bs
     → (ts : List Section)

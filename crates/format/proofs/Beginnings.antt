@@ -10,7 +10,8 @@ use lib.ListN.{length, getD, drop, replicate}
 use Rattle.format.specs.Bytes.{All, Bytes, bigEndian, number}
 use Rattle.format.specs.Layout.{Item, code, zeros, own, count, fixed, counted, Fields, write, fits}
 use Rattle.format.specs.Parts.{Kind, exportParameters, tokenParameters, sectionId, sameKind, isSubsection, layout, header, Part, size, span, writeParts, written, joins, Choice}
-use Rattle.format.specs.Rules.{external, checks, Section, frontSubs, sectionsOf, ofKind, each, mayBothStand, otherKind, maskCovers}
+use Rattle.format.specs.Rules.{checks, Section, frontSubs, sectionsOf, ofKind, each, mayBothStand, otherKind, maskCovers}
+use Rattle.format.specs.Parts.{external}
 use Rattle.format.specs.Legal.{Pairwise, Lawful}
 use Rattle.format.proofs.Numbers.{bytes-append, bytes-bigEndian, bytes-zeros}
 use Rattle.format.proofs.Finding.{and-split, and-join, or-map}
@@ -21,7 +22,7 @@ use Rattle.format.proofs.Grouping.{all-split}
 
 -- ---- bytes and lengths
 
--- The first field of bytes, and those behind it.
+-- The first field of bytes, and those after it.
 first-bytes : (fs : Fields) → All Bytes fs → Bytes (getD fs 0 []) × All Bytes (drop 1 fs)
 first-bytes [] h = (tt, tt)
 first-bytes (f ∷ fs) h = (h .0, h .1)
@@ -171,7 +172,7 @@ each-front : (f : Part → Bool) (us vs : List Part) → each f (us ++ vs) ≡ t
 each-front f [] vs e = refl
 each-front f (u ∷ us) vs e = let s = and-split (f u) (each f (us ++ vs)) e in and-join _ _ (s .0) (each-front f us vs (s .1))
 
--- The parts of a kind in two lists, one behind the other.
+-- The parts of a kind in two lists, one after the other.
 pub kind-join : (k : Kind) (us vs : List Part) → ofKind k (us ++ vs) ≡ ofKind k us ++ ofKind k vs
 kind-join k [] vs = refl
 kind-join k (u ∷ us) vs = go (sameKind k (u .kind)) (kind-join k us vs)

@@ -17,18 +17,18 @@ use Rattle.format.proofs.Grouping.{Subs, parts-then-section, span-sub, 
 use Rattle.format.proofs.Beginnings.{written-more}
 pub use Rattle.format.specs.Claims.{restate, sectionsEnd}
 
--- A byte set behind a front.
+-- A byte set after a front.
 set-behind : (a b : List ℕ) (j v : ℕ) → set (a ++ b) (length a + j) v ≡ a ++ set b j v
 set-behind [] b j v = ap (λ (n : ℕ). set b n v) (zero-add j)
 set-behind (x ∷ a) b j v = ap (λ (n : ℕ). set (x ∷ a ++ b) n v) (suc-add (length a) j) ∙ ap (λ (y : List ℕ). x ∷ y) (set-behind a b j v)
 
--- A length restated behind a front.
+-- A length restated after a front.
 pub restate-behind : (a b : List ℕ) (n : ℕ) → restate (length a) n (a ++ b) ≡ a ++ restate 0 n b
 restate-behind a b n =
     ap (λ (y : List ℕ). set y (length a + 3) (n % 256)) (set-behind a b 2 (n / 256 % 256))
     ∙ set-behind a (set b 2 (n / 256 % 256)) 3 (n % 256)
 
--- What is written behind the frame does not turn on the part's length.
+-- What is written after the frame does not turn on the part's length.
 unstated : (l : List Item) (t u : ℕ) (fs : Fields) → plain l ≡ true → write t l fs ≡ write u l fs
 unstated [] t u fs p = refl
 unstated (code w v ∷ l) t u fs p = absurd (let z : _≡_ {A = ℕ} 0 1 = cc in omega arith)
@@ -49,12 +49,12 @@ framed true i g t u l fs z p =
 pub relength : (k : Kind) (t u : ℕ) (fs : Fields) (z : List ℕ) → write u (layout k) fs ++ z ≡ restate 0 u (write t (layout k) fs ++ z)
 relength k t u fs z = framed (isSubsection k) (sectionId k) (tag k) t u (body k) fs z (body-plain k)
 
--- The written form with other parts' bytes behind the same header but for its length.
+-- The written form with other parts' bytes after the same header but for its length.
 header-length : (i : ℕ) (ps : List Part) (n : ℕ) (z : List ℕ)
     → write n header ((i ∷ []) ∷ []) ++ (writeParts ps ++ z) ≡ restate 0 n (written i ps) ++ z
 header-length i ps n z = refl
 
--- A section added: the header's length, and its bytes behind the others.
+-- A section added: the header's length, and its bytes after the others.
 pub section-added : (i : ℕ) (ps : List Part) (p : Part) → isSubsection (p .kind) ≡ false
     → written i (ps ++ p ∷ []) ≡ restate 0 (length (written i ps) + size p) (written i ps) ++ write (size p) (layout (p .kind)) (p .fields)
 section-added i ps p f =
@@ -66,7 +66,7 @@ section-added i ps p f =
     (parts-then-section ps p [] f ∙ ap (λ (y : List ℕ). writeParts ps ++ y) one)
     ∙ header-length i ps (length (written i ps) + size p) w
 
--- A subsection's bytes behind those of its section, whose length grows.
+-- A subsection's bytes after those of its section, whose length grows.
 sub-bytes : (s : Section) (p : Part) → isSubsection (s .head .kind) ≡ false → Subs (s .subs) → isSubsection (p .kind) ≡ true
     → writeParts (s .head ∷ s .subs ++ p ∷ [])
     ≡ restate 0 (span (s .head) (s .subs) + size p) (writeParts (s .head ∷ s .subs)) ++ write (size p) (layout (p .kind)) (p .fields)
@@ -90,7 +90,7 @@ sub-bytes s p f g e =
     ∙ sym (append-assoc (write (span h us + size p) (layout (h .kind)) (h .fields)) (writeParts us) w)
     ∙ ap (λ (y : List ℕ). y ++ w) (relength (h .kind) (span h us) (span h us + size p) (h .fields) (writeParts us))
 
--- A subsection added to the last section: its length and the header's, and the bytes of the subsection behind the others.
+-- A subsection added to the last section: its length and the header's, and the bytes of the subsection after the others.
 pub sub-added : (i : ℕ) (ss : List Section) (s : Section) (p : Part) → isSubsection (s .head .kind) ≡ false → Subs (s .subs)
     → isSubsection (p .kind) ≡ true
     → written i (partsOf (ss ++ s ∷ []) ++ p ∷ [])

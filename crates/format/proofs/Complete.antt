@@ -10,13 +10,15 @@ use lib.ListN.{length, getD, drop, length-append, length-replicate}
 use lib.Seq.{drop-at}
 use borrow.Author.Tests.{eq-eqb, le-leb, not-true}
 use Rattle.format.specs.Bytes.{All, number, bytesAt}
-use Rattle.format.specs.Layout.{Item, code, zeros, own, count, fixed, counted, Fields, fits, write, least}
-use Rattle.format.specs.Parts.{Kind, rule, information, sectionId, tag, sameKind, sectionKind, subsectionKind, isSubsection, layout, Part, size, subsectionsLength, span, writeParts}
+use Rattle.format.specs.Layout.{Item, code, zeros, own, count, fixed, counted, Fields, fits, write}
+use Rattle.format.specs.Slots.{least}
+use Rattle.format.specs.Parts.{Kind, rule, information, sectionId, tag, sameKind, isSubsection, layout, Part, size, subsectionsLength, span, writeParts}
+use Rattle.format.specs.Reading.{sectionKind, subsectionKind}
 use Rattle.format.specs.Rules.{checks, Section, has, sameRuleId, mayBothStand, otherKind, maskCovers, hasRequired}
 use Rattle.format.specs.Legal.{Pairwise}
 use Rattle.format.specs.Reading.{Outcome, refused, found, fault, need, andThen, idOf, stated, bodySlots, madeLength, partIn, zeroChecks, fieldChecks}
 use Rattle.format.specs.Reading.{tested, subsectionChecks, subsection, subsections, holdsSubs, kindBefore, ruleBefore, sectionChecks}
-use Rattle.format.specs.Reading.{closed, sectionRest, section, sections, partsOf}
+use Rattle.format.specs.Reading.{afterSubsections, sectionRest, section, sections, partsOf}
 use Rattle.format.proofs.Numbers.{bigEndian-length, same-sym}
 use Rattle.format.proofs.Finding.{and-join, or-left, or-right, or-else, every-kind, sameKind-eq, sectionKind-told, subsectionKind-told}
 use Rattle.format.proofs.Fitting.{Fits, part-fits}
@@ -51,7 +53,7 @@ none-of p [] h = refl
 none-of p (u ∷ us) h =
     ap₂ (λ (a b : Bool). a || b) (kinds-differ (u .kind) (p .kind) (not-true _ (h .0))) (none-of p us (h .1))
 
--- Of a list in which any two pass a test: the part behind the earlier ones, and the rest with it.
+-- Of a list in which any two pass a test: the part after the earlier ones, and the rest with it.
 pairwise-at : {A : Type 0} (f : A → A → Bool) (xs : List A) (x : A) (ys : List A) → Pairwise f (xs ++ x ∷ ys) → All (λ y. f y x ≡ true) xs
 pairwise-at f [] x ys h = tt
 pairwise-at f (y ∷ xs) x ys h = (all-split (λ z. f y z ≡ true) xs (x ∷ ys) (h .0) .1 .0, pairwise-at f xs x ys (h .1))
@@ -68,7 +70,7 @@ sub-found x o before at n p r z g new ends small e =
     let f = part-fits k (size p) (p .fields) small (g .part .fit) in
     let i = part-read p (size p) r z f e in
     let framed : Framed true (sectionId k) (tag k) (size p) r = subst (λ (y : Bool). Framed y (sectionId k) (tag k) (size p) r) (g .sub) (i .0) in
-    let told : subsectionKind o (number (bytesAt r 0 2)) ≡ some k =
+    let asAnswer : subsectionKind o (number (bytesAt r 0 2)) ≡ some k =
     ap (subsectionKind o) (framed .0) ∙ subsectionKind-told o k (g .sub) (g .owner) in
     let long : stated r ≡ size p = framed .2 in
     let lo = least-le (layout k) (size p) [] (p .fields) f in
@@ -89,7 +91,7 @@ sub-found x o before at n p r z g new ends small e =
       ),
     ) in
     need-passed (leb 4 n) (fault 12 at 0) _ (le-leb 4 n (omega arith))
-    ∙ ap (λ (m : Option Kind). elim m as (λ y. Outcome Part) [ none ↦ refused (fault 13 at 0) | some j ↦ tested at (subsectionChecks x j (has j before) n r) (found (partIn j r)) ]) told
+    ∙ ap (λ (m : Option Kind). elim m as (λ y. Outcome Part) [ none ↦ refused (fault 13 at 0) | some j ↦ tested at (subsectionChecks x j (has j before) n r) (found (partIn j r)) ]) asAnswer
     ∙ tests-lead at (subsectionChecks x k (has k before) n r) (found (partIn k r)) hold
     ∙ ap {B = Outcome Part} found (i .2)
 
@@ -117,7 +119,7 @@ part-stated p t r z h f e =
     framed-stated (isSubsection (p .kind)) (sectionId (p .kind)) (tag (p .kind)) t r
     (part-read p t r z (part-fits (p .kind) t (p .fields) h f) e .0)
 
--- Subsections that are written and keep their rules are found, behind the earlier ones.
+-- Subsections that are written and keep their rules are found, after the earlier ones.
 subs-found : (d : ℕ) (x : Bool) (o : Kind) (before : List Part) (at : ℕ) (us : List Part) (z : List ℕ)
     → length (writeParts us) < d → length (writeParts us) < 256 ^ 2 → All (GoodSub x o) us → Pairwise otherKind (before ++ us)
     → subsections d x o before at (length (writeParts us)) (writeParts us ++ z) ≡ found (before ++ us)
@@ -170,7 +172,7 @@ may-ids true true true e f = sym e
 may-ids true false true e f = sym e
 may-ids false w true e f = absurd (let z : _≡_ {A = ℕ} 0 1 = cc in omega arith)
 
--- A section that is no rule, and may stand behind all earlier ones, has none of its kind among them.
+-- A section that is no rule, and may stand after all earlier ones, has none of its kind among them.
 none-before : (s : Section) (bs : List Section) → sameKind rule (s .head .kind) ≡ false → All (λ b. mayBothStand b s ≡ true) bs
     → kindBefore (s .head .kind) bs ≡ false
 none-before s [] r g = refl
@@ -191,7 +193,7 @@ kind-new s before h = go (sameKind rule (s .head .kind)) refl
     go true q = or-left _ _ q
     go false q = or-right (sameKind rule (s .head .kind)) _ (ap not (none-before s before q h))
 
--- A rule that may stand behind all earlier sections has a Rule ID of its own.
+-- A rule that may stand after all earlier sections has a Rule ID of its own.
 no-rule-before : (s : Section) (bs : List Section) → sameKind rule (s .head .kind) ≡ true → All (λ b. mayBothStand b s ≡ true) bs
     → ruleBefore (s .head) bs ≡ false
 no-rule-before s [] r g = refl
@@ -221,12 +223,12 @@ made-whole : (x : Bool) (k : Kind) (us : List Part) (m n t : ℕ) → isSubsecti
 made-whole x k [] m n t f g a b = or-right (holdsSubs k) _ (eq-eqb m t (omega arith))
 made-whole x k (u ∷ us) m n t f g a b = or-left _ _ (owner-holds (u .kind) k (g .0 .sub) (g .0 .owner) f)
 
--- A section that is written, keeps its rules and may stand behind the earlier ones is found.
+-- A section that is written, keeps its rules and may stand after the earlier ones is found.
 section-found : (full x : Bool) (before : List Section) (at : ℕ) (s : Section) (r z : List ℕ) → GoodSection full x s
     → All (λ b. mayBothStand b s ≡ true) before → length (writeParts (s .head ∷ s .subs)) < 256 ^ 2
     → r ≡ writeParts (s .head ∷ s .subs) ++ z
     → (section full x before at r ≡ found s) × (stated r ≡ length (writeParts (s .head ∷ s .subs)))
-unfolding section sectionRest closed
+unfolding section sectionRest afterSubsections
 section-found full x before at s r z g new small e =
     let p : Part = s .head in
     let us : List Part = s .subs in
@@ -241,7 +243,7 @@ section-found full x before at s r z g new small e =
     let f = part-fits k t (p .fields) (omega arith) (g .part .fit) in
     let i = part-read p t r (writeParts us ++ z) f form in
     let framed : Framed false (sectionId k) (tag k) t r = subst (λ (y : Bool). Framed y (sectionId k) (tag k) t r) (g .head) (i .0) in
-    let told : sectionKind (idOf r) ≡ some k = ap sectionKind (framed .0) ∙ sectionKind-told k (g .head) in
+    let asAnswer : sectionKind (idOf r) ≡ some k = ap sectionKind (framed .0) ∙ sectionKind-told k (g .head) in
     let st : stated r ≡ t = framed .2 in
     let lo = least-le (layout k) t [] (p .fields) f in
     let lr : length r ≡ length a + length (writeParts us ++ z) = ap length form ∙ length-append a (writeParts us ++ z) in
@@ -268,16 +270,16 @@ section-found full x before at s r z g new small e =
     let subs = ap₂ (λ (n : ℕ) (y : List ℕ). subsections (suc (stated r)) x k [] (at + madeLength k r) n y) left rest
     ∙ subs-found (suc (stated r)) x k [] (at + madeLength k r) us z (omega arith) (omega arith) (g .subs) (g .tags) in (
       need-passed (leb 4 (length r)) (fault 6 at 0) _ (le-leb 4 (length r) (let q = size-pos p in omega arith))
-          ∙ ap (λ (m : Option Kind). elim m as (λ y. Outcome Section) [ none ↦ refused (fault 7 at 0) | some j ↦ tested at (sectionChecks x j (kindBefore j before) (ruleBefore (partIn j r) before) r) (sectionRest full x j at r) ]) told
+          ∙ ap (λ (m : Option Kind). elim m as (λ y. Outcome Section) [ none ↦ refused (fault 7 at 0) | some j ↦ tested at (sectionChecks x j (kindBefore j before) (ruleBefore (partIn j r) before) r) (sectionRest full x j at r) ]) asAnswer
           ∙ tests-lead at (sectionChecks x k (kindBefore k before) (ruleBefore (partIn k r) before) r) _ hold
           ∙ then-found _ subs
-          ∙ ap (λ (q : Part). closed full at (at + madeLength k r) (record { head = q; subs = us })) (i .2)
+          ∙ ap (λ (q : Part). afterSubsections full at (at + madeLength k r) (record { head = q; subs = us })) (i .2)
           ∙ need-passed (maskCovers us) _ _ (g .masks)
           ∙ need-passed (not full || hasRequired s) _ _ (g .required),
       st ∙ omega arith,
     )
 
--- The bytes of a section and of those behind it.
+-- The bytes of a section and of those after it.
 section-apart : (full x : Bool) (s : Section) (ss : List Section) → GoodSection full x s → All (GoodSection full x) ss
     → writeParts (partsOf (s ∷ ss)) ≡ writeParts (s .head ∷ s .subs) ++ writeParts (partsOf ss)
 section-apart full x s [] g h =
@@ -298,7 +300,7 @@ sections-end : (d : ℕ) (full x : Bool) (before : List Section) (at : ℕ)
 unfolding sections
 sections-end d full x before at = refl
 
--- Sections that are written and keep their rules are found, behind the earlier ones.
+-- Sections that are written and keep their rules are found, after the earlier ones.
 pub sections-found : (d : ℕ) (full x : Bool) (before : List Section) (at : ℕ) (ss : List Section)
     → length (writeParts (partsOf ss)) < d → length (writeParts (partsOf ss)) < 256 ^ 2 → All (GoodSection full x) ss
     → Pairwise mayBothStand (before ++ ss) → (not full || kindBefore information (before ++ ss)) ≡ true

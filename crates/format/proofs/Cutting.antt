@@ -1,4 +1,4 @@
--- The slots of a layout lie one behind another: laid end to end, their bytes are the bytes that they cut.
+-- The slots of a layout lie one after another: laid end to end, their bytes are the bytes that they cut.
 use mathlib.Core.Path.{_≡_, refl, sym, ap, _∙_}
 use mathlib.Core.List.{List, [], _∷_, _++_, append-assoc, map}
 use mathlib.Core.Option.{some}
@@ -6,7 +6,8 @@ use Prim.Native.Nat.{ℕ, zero, suc, _+_, _≤_}
 use native.Mathlib.Omega.{arith}
 use lib.ListN.{length, getD, drop, getElem?, length-map}
 use Rattle.format.specs.Bytes.{number, bytesAt}
-use Rattle.format.specs.Layout.{Item, code, zeros, own, count, fixed, counted, Slot, slots, slotBytes, endOf}
+use Rattle.format.specs.Layout.{Item, code, zeros, own, count, fixed, counted}
+use Rattle.format.specs.Slots.{Slot, slots, slotBytes, endOf}
 use Rattle.format.proofs.Slots.{cut-at}
 use Rattle.format.proofs.Elements.{some-inj}
 
@@ -34,12 +35,12 @@ slotted r (s ∷ ss) = slotBytes r s ++ slotted r ss
 slot-cons : (r : List ℕ) (o n : ℕ) (a z : List ℕ) → a ++ z ≡ drop (o + n) r → (bytesAt r o n ++ a) ++ z ≡ drop o r
 slot-cons r o n a z e = append-assoc (bytesAt r o n) a z ∙ ap (λ (y : List ℕ). bytesAt r o n ++ y) e ∙ cut-at r o n
 
--- The slots lie one behind another, the first at offset o.
+-- The slots lie one after another, the first at offset o.
 abbrev Contiguous : ℕ → List Slot → Type 0
 Contiguous o [] = Unit {0}
 Contiguous o (s ∷ ss) = (s .offset ≡ o) × Contiguous (s .offset + s .width) ss
 
--- The slots of a layout lie one behind another.
+-- The slots of a layout lie one after another.
 pub slots-contiguous : (ns : List ℕ) (l : List Item) (r : List ℕ) (o : ℕ) → Contiguous o (slots ns l r o)
 slots-contiguous ns [] r o = tt
 slots-contiguous ns (code w v ∷ l) r o = (refl, slots-contiguous ns l r (o + w))
@@ -49,7 +50,7 @@ slots-contiguous ns (count w k ∷ l) r o = (refl, slots-contiguous (ns ++ (numb
 slots-contiguous ns (fixed n ∷ l) r o = (refl, slots-contiguous ns l r (o + n))
 slots-contiguous ns (counted c ∷ l) r o = (refl, slots-contiguous ns l r (o + getD ns c 0))
 
--- The bytes of such slots, and those behind the last slot, are the bytes from the first on.
+-- The bytes of such slots, and those after the last slot, are the bytes from the first on.
 pub slots-tile : (r : List ℕ) (o : ℕ) (ss : List Slot) → Contiguous o ss
     → slotted r ss ++ drop (endOf o ss) r ≡ drop o r
 slots-tile r o [] t = refl
@@ -57,7 +58,7 @@ slots-tile r o (s ∷ ss) t =
     slot-cons r (s .offset) (s .width) _ _ (slots-tile r (s .offset + s .width) ss (t .1))
     ∙ ap (λ (n : ℕ). drop n r) (t .0)
 
--- They end behind their beginning.
+-- They end after their beginning.
 slots-end : (o : ℕ) (ss : List Slot) → Contiguous o ss → o ≤ endOf o ss
 slots-end o [] t = omega arith
 slots-end o (s ∷ ss) t =

@@ -1,5 +1,5 @@
 -- The element of a list at a number, counted from 0: it is there below the length and nowhere else. Four elements stored
--- one behind another.
+-- one after another.
 use mathlib.Core.Path.{_≡_, refl, ap, ap₂, _∙_}
 use mathlib.Core.List.{List, [], _∷_}
 use mathlib.Core.Option.{none, some}
@@ -8,7 +8,7 @@ use native.Mathlib.Omega.{arith}
 use lib.ListN.{length, drop, set, getElem?}
 use lib.Seq.{sets}
 
--- Below the length there is an element, and behind the earlier ones the list goes on with it.
+-- Below the length there is an element, and after the earlier ones the list goes on with it.
 pub there : {A : Type 0} (xs : List A) (k : ℕ) → k < length xs
     → (x : A) × (getElem? xs k ≡ some x) × (drop k xs ≡ x ∷ drop (suc k) xs)
 there [] k h = absurd (omega arith)
@@ -31,7 +31,7 @@ there-lt (y ∷ xs) (suc k) x e = let i = there-lt xs k x e in omega arith
 pub some-inj : {A : Type 0} {a b : A} → some a ≡ some b → a ≡ b
 some-inj e = cc
 
--- Four numbers stored one behind another are stored as one list.
+-- Four numbers stored one after another are stored as one list.
 pub four-sets : (l : List ℕ) (at w x y z : ℕ)
     → set (set (set (set l at w) (at + 1) x) (at + 2) y) (at + 3) z ≡ sets l at (w ∷ x ∷ y ∷ z ∷ [])
 four-sets l at w x y z =

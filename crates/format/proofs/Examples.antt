@@ -3,20 +3,28 @@ use mathlib.Core.Path.{_≡_, refl}
 use mathlib.Core.List.{List, [], _∷_, _++_}
 use Prim.Native.Nat.{ℕ, suc}
 use lib.Dec.{lit<, lit≤}
-use Rattle.format.specs.Parts.{information}
+use lib.ListN.{replicate}
+use Rattle.format.specs.Parts.{Part, information, protection}
 use Rattle.format.specs.Legal.{Legal}
 use Rattle.format.specs.Table.{rows}
 use Rattle.format.specs.Lines.{text, firstLine, rowLine}
 use Rattle.format.specs.declared.Row.{Row}
 use Rattle.format.specs.Bytes.{All, number, bytesAt, allZero, sameBytes}
 use Rattle.format.specs.Forms.{ruleIdForm, dateExists}
-use Rattle.format.specs.Reading.{answer, told, reading, sections, section, sectionRest, closed, subsections, subsection, tested, need, andThen}
+use Rattle.format.specs.Reading.{answer, asAnswer, reading, sections, section, sectionRest, afterSubsections, subsections, subsection, tested, need, andThen}
 use Rattle.format.proofs.Numbers.{bytes-zeros}
-use Rattle.format.specs.Examples.{tokenT, partsT, Holds, starred}
+use Rattle.format.specs.Examples.{tokenT, Holds, starred}
 
 pub starred-hold : All Holds starred
-unfolding answer told reading sections section sectionRest closed subsections subsection tested need andThen number bytesAt allZero sameBytes dateExists ruleIdForm
+unfolding answer asAnswer reading sections section sectionRest afterSubsections subsections subsection tested need andThen number bytesAt allZero sameBytes dateExists ruleIdForm
 starred-hold = (refl, (refl, (refl, (refl, (refl, (λ b. refl, (refl, (refl, (refl, (refl, (refl, tt)))))))))))
+
+-- the parts of the smallest token
+abbrev partsT : List Part
+partsT =
+    record { kind = information; fields = replicate 4 0 ∷ [] }
+    ∷ record { kind = protection; fields = replicate 32 0 ∷ replicate 8 0 ∷ replicate 16 0 ∷ [] }
+    ∷ []
 
 -- the lines of rows, numbered from n on
 abbrev rowLines : ℕ → List Row → List ℕ
@@ -27,7 +35,7 @@ rowLines n (r ∷ rs) = rowLine n r ++ rowLines (suc n) rs
 pub listing-T :
     firstLine 0x1E 80 (answer tokenT) ++ rowLines 0 (rows partsT)
     ≡ text "token external 80 bytes 2 rows\n0 14 - 8 72 0\n1 14 0001 18 62 0\n"
-unfolding answer told reading sections section sectionRest closed subsections subsection tested need andThen number bytesAt allZero sameBytes firstLine rowLine
+unfolding answer asAnswer reading sections section sectionRest afterSubsections subsections subsection tested need andThen number bytesAt allZero sameBytes firstLine rowLine
 listing-T = refl
 
 -- The smallest token is legal, and its parts are those two.

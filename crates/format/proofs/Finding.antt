@@ -10,7 +10,7 @@ use borrow.Author.Tests.{eqb-true, eq-eqb, ltb-true, not-true}
 use Rattle.format.specs.Parts.{Kind, publicKey, rule, transportVariant, transportRule, exportParameters}
 use Rattle.format.specs.Parts.{sourceRule, tokenParameters, name, information, protection, dates, applicationData}
 use Rattle.format.specs.Parts.{kinds, sectionId, tag, isSubsection, kindNumber, sameKind}
-use Rattle.format.specs.Parts.{firstKind, sectionKind, subsectionKind}
+use Rattle.format.specs.Reading.{firstKind, sectionKind, subsectionKind}
 
 -- ---- two tests
 

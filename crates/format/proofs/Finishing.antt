@@ -11,11 +11,12 @@ use lib.ListN.{length, take, drop}
 use lib.Seq.{take-all, length-take-le}
 use borrow.Author.Tests.{eq-eqb, le-leb}
 use Rattle.format.specs.Bytes.{Bytes}
-use Rattle.format.specs.Parts.{Kind, information, Part, sectionKind, written}
-use Rattle.format.specs.Rules.{external, Section, maskCovers, hasRequired}
-use Rattle.format.specs.Legal.{knownId, Legal}
+use Rattle.format.specs.Parts.{Kind, information, Part, written, external, knownId}
+use Rattle.format.specs.Reading.{sectionKind}
+use Rattle.format.specs.Rules.{Section, maskCovers, hasRequired}
+use Rattle.format.specs.Legal.{Legal}
 use Rattle.format.specs.Reading.{Fault, fault, Outcome, refused, found, need, andThen, tested, idOf, stated, madeLength, partIn, subsections}
-use Rattle.format.specs.Reading.{kindBefore, ruleBefore, sectionChecks, closed, sectionRest, section, sections, headerChecks, reading, partsOf, told}
+use Rattle.format.specs.Reading.{kindBefore, ruleBefore, sectionChecks, afterSubsections, sectionRest, section, sections, headerChecks, reading, partsOf, asAnswer}
 use Rattle.format.specs.Writer.{finish}
 use Rattle.format.specs.declared.Answer.the-variants.{Accepted, Refused}
 use Rattle.format.proofs.Finding.{and-join}
@@ -31,7 +32,7 @@ use Rattle.format.proofs.Additions.{any-draft}
 -- A section that a draft has is the same in a token, if what it requires is there.
 rest-full : (x : Bool) (k : Kind) (at : ℕ) (r : List ℕ) (s : Section) → sectionRest false x k at r ≡ found s
     → sectionRest true x k at r ≡ need (hasRequired s) (fault 20 at 0) (found s)
-unfolding sectionRest closed
+unfolding sectionRest afterSubsections
 rest-full x k at r s e =
     let n : ℕ = madeLength k r in
     let f = followed (subsections (suc (stated r)) x k [] (at + n) (stated r - n) (drop n r)) _ s e in
@@ -133,16 +134,16 @@ draft-then-20 d ss f b e q =
 -- Finishing refuses by the draft's own fault, or with 20.
 pub finish-refuses : (d : List ℕ) (n p : ℕ) → Bytes d → finish d ≡ Refused n p
     → ((f : Fault) × (reading false d ≡ refused f) × (n ≡ f .number) × (p ≡ f .part)) ⊎ ((ss : List Section) × (reading false d ≡ found ss) × (n ≡ 20))
-unfolding finish told andThen
+unfolding finish asAnswer andThen
 finish-refuses d n p b e = go (reading false d) refl e
   where
     behind : (ss : List Section) (o : Outcome (List Section)) → reading false d ≡ found ss → reading true (take (stated d) d) ≡ o
-        → told (λ us. stated d) o ≡ Refused n p → n ≡ 20
+        → asAnswer (λ us. stated d) o ≡ Refused n p → n ≡ 20
     behind ss (refused f) r q w = let m : f .number ≡ n = cc in sym m ∙ draft-then-20 d ss f b r q
     behind ss (found us) r q w = absurd (let z : _≡_ {A = ℕ} 0 1 = cc in omega arith)
 
     go : (o : Outcome (List Section)) → reading false d ≡ o
-        → told (λ us. stated d) (andThen o (λ ss. reading true (take (stated d) d))) ≡ Refused n p
+        → asAnswer (λ us. stated d) (andThen o (λ ss. reading true (take (stated d) d))) ≡ Refused n p
         → ((f : Fault) × (reading false d ≡ refused f) × (n ≡ f .number) × (p ≡ f .part)) ⊎ ((ss : List Section) × (reading false d ≡ found ss) × (n ≡ 20))
     go (refused f) r w = let m : n ≡ f .number = cc in let k : p ≡ f .part = cc in inl (f, r, m, k)
     go (found ss) r w = inr (ss, r, behind ss (reading true (take (stated d) d)) r refl w)

@@ -40,7 +40,7 @@ join-subs x o (u ∷ us) ps g h i e =
     (ap₂ (λ (v w : Bool). not v || w) (g .0 .sub) (eq-eqb (sectionId (u .kind)) i (g .0 .owner ∙ sym e)))
     (join-subs x o us ps (g .1) h (sectionId (u .kind)) (g .0 .owner))
 
--- The parts of good sections join, behind whatever section.
+-- The parts of good sections join, after whatever section.
 pub flat-joins : (full x : Bool) (ss : List Section) → All (GoodSection full x) ss → (i : ℕ) → joins i (partsOf ss) ≡ true
 flat-joins full x [] g i = refl
 flat-joins full x (s ∷ ss) g i =
@@ -49,7 +49,7 @@ flat-joins full x (s ∷ ss) g i =
     (join-subs x (s .head .kind) (s .subs) (partsOf ss) (g .0 .subs) (λ j e. flat-joins full x ss (g .1) j)
     (sectionId (s .head .kind)) refl)
 
--- A kind that stands among the parts behind stands among all.
+-- A kind that stands among the parts after stands among all.
 pub has-later : (k : Kind) (us ps : List Part) → has k ps ≡ true → has k (us ++ ps) ≡ true
 has-later k [] ps h = h
 has-later k (u ∷ us) ps h = or-right (sameKind k (u .kind)) (has k (us ++ ps)) (has-later k us ps h)

@@ -47,7 +47,7 @@ pub joins-first : (o : ℕ) (p : Part) (ps : List Part) → joins o (p ∷ ps) �
 joins-first o p ps j e =
     eqb-true _ _ (or-else (not (isSubsection (p .kind))) _ (and-split _ (joins (sectionId (p .kind)) ps) j .0) (ap not e))
 
--- Those behind it may stand there.
+-- Those after it may stand there.
 pub joins-behind : (o : ℕ) (p : Part) (ps : List Part) → joins o (p ∷ ps) ≡ true → joins (sectionId (p .kind)) ps ≡ true
 joins-behind o p ps j =
     and-split (not (isSubsection (p .kind)) || eqb (sectionId (p .kind)) o) (joins (sectionId (p .kind)) ps) j .1
@@ -79,7 +79,7 @@ span-end : (p : Part) (ps : List Part) (q : Part) (qs : List Part) → isSubsect
 span-end p ps q qs e =
     ap (λ (n : ℕ). size p + elim (isSubsection (p .kind)) as (λ b. ℕ) [ true ↦ 0 | false ↦ n ]) (subs-end ps q qs e)
 
--- A section behind other parts changes none of their bytes.
+-- A section after other parts changes none of their bytes.
 pub parts-then-section : (ps : List Part) (q : Part) (qs : List Part) → isSubsection (q .kind) ≡ false
     → writeParts (ps ++ q ∷ qs) ≡ writeParts ps ++ writeParts (q ∷ qs)
 parts-then-section [] q qs e = refl
@@ -92,11 +92,11 @@ pub span-sub : (p : Part) (ps : List Part) → isSubsection (p .kind) ≡ true �
 span-sub p ps e =
     ap (λ (n : ℕ). size p + n) (is-true (isSubsection (p .kind)) 0 (subsectionsLength ps) e) ∙ add-zero (size p)
 
--- A section's length covers the subsections behind it.
+-- A section's length covers the subsections after it.
 pub span-section : (p : Part) (ps : List Part) → isSubsection (p .kind) ≡ false → span p ps ≡ size p + subsectionsLength ps
 span-section p ps e = ap (λ (n : ℕ). size p + n) (is-false (isSubsection (p .kind)) 0 (subsectionsLength ps) e)
 
--- Parts behind subsections change none of their bytes.
+-- Parts after subsections change none of their bytes.
 pub subs-then-parts : (us ps : List Part) → Subs us → writeParts (us ++ ps) ≡ writeParts us ++ writeParts ps
 subs-then-parts [] ps h = refl
 subs-then-parts (u ∷ us) ps h =

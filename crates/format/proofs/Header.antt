@@ -50,11 +50,11 @@ header-read i ps bs z h e =
     let id : bytesAt bs 0 1 ≡ i ∷ [] = ap (λ (fs : Fields). getD fs 0 []) (r .1) in
     (ap number id ∙ single i, r .0 .1 .0, r .0 .1 .1 .0 ∙ sym l, r .0 .1 .1 .1 .0)
 
--- Behind the header stand the parts.
+-- After the header stand the parts.
 pub behind-header : (i : ℕ) (ps : List Part) → drop 8 (written i ps) ≡ writeParts ps
 behind-header i ps = refl
 
--- The first bytes, where the header and what stands behind it are the parts', are the written form.
+-- The first bytes, where the header and what stands after it are the parts', are the written form.
 pub written-front : (i : ℕ) (ps : List Part) (bs : List ℕ) (n : ℕ) → 8 ≤ n → n ≤ length bs
     → write n header ((i ∷ []) ∷ []) ++ drop 8 bs ≡ bs → writeParts ps ≡ drop 8 (take n bs) → written i ps ≡ take n bs
 written-front i ps bs n h k e f =

@@ -35,7 +35,7 @@ abbrev rising : ℕ → List ℕ → Bool
 rising n [] = true
 rising n (m ∷ ms) = leb n m && rising m ms
 
--- Each test names a field of the layout behind its frame, and a refusal from 10 to 21.
+-- Each test names a field of the layout after its frame, and a refusal from 10 to 21.
 abbrev named : ℕ → List Check → Bool
 named n [] = true
 named n (c ∷ cs) = leb 3 (c .field) && ltb (c .field) n && leb 10 (c .refusal) && leb (c .refusal) 21 && named n cs
@@ -46,7 +46,7 @@ alike k [] = 0
 alike k (j ∷ js) = elim (sameKind k j) [ true ↦ suc (alike k js) | false ↦ alike k js ]
 
 -- Each count points at the field that it counts and each counted field goes by a count before it; ids and tags can be
--- stated; there is no id, tag or own length behind the frame; what is always 0 comes first; the tests name fields and
+-- stated; there is no id, tag or own length after the frame; what is always 0 comes first; the tests name fields and
 -- refusals, in rising offset but for the modulus before the exponent; no other kind has the same number.
 abbrev wellFormed : Kind → Bool
 wellFormed k =

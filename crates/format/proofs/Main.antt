@@ -9,7 +9,8 @@ use Prim.Native.Nat.{ℕ, suc, _+_, _*_, _≤_, _<_}
 use lib.Dec.{leb}
 use lib.ListN.{length, take, drop, getElem?}
 use Rattle.format.specs.Bytes.{All, Bytes, bytesAt}
-use Rattle.format.specs.Layout.{Fields, write, fits, Slot, slotBytes, fieldsIn}
+use Rattle.format.specs.Layout.{Fields, write, fits}
+use Rattle.format.specs.Slots.{Slot, slotBytes, fieldsIn}
 use Rattle.format.specs.Parts.{Kind, rule, isSubsection, layout, Part, size, written, writeParts, joins, WrittenForm}
 use Rattle.format.specs.Rules.{Section, ofKind}
 use Rattle.format.specs.Legal.{Lawful, Complete, Legal, ruleCount, rulesOfAll, joined}
@@ -54,7 +55,7 @@ pub accepted-into-table : (bs t : List ℕ) (n : ℕ) → Bytes bs
     → (tableAnswer bs t ≡ Accepted n) ↔ ((l : Legal bs) × (n ≡ length (rows (l .parts))) × (columns * n ≤ length t))
 accepted-into-table bs t n b = Tables.table-exactly bs t n b
 
--- The table then holds the rows of the token's parts, and behind them what it held.
+-- The table then holds the rows of the token's parts, and after them what it held.
 pub table-holds-rows : (bs t : List ℕ) (l : Legal bs) → columns * length (rows (l .parts)) ≤ length t
     → tableAfter bs t ≡ tableOf (rows (l .parts)) ++ drop (columns * length (rows (l .parts))) t
 table-holds-rows bs t l h = Tables.table-holds bs t l h

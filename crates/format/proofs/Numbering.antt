@@ -9,14 +9,13 @@ use lib.Dec.{eqb, leb}
 use lib.ListN.{length, take, drop, length-take, length-drop}
 use borrow.Author.Tests.{eqb-true, eqb-false, leb-true, not-true}
 use Rattle.format.specs.Bytes.{number, bytesAt}
-use Rattle.format.specs.Layout.{least}
-use Rattle.format.specs.Parts.{Kind, information, tokenParameters, layout, sectionKind, subsectionKind}
-use Rattle.format.specs.Parts.{Part, size}
-use Rattle.format.specs.Rules.{Check, external, Section, has, maskCovers, hasRequired}
-use Rattle.format.specs.Reading.{Fault, fault, Outcome, refused, found, need, andThen, idOf, stated, madeLength}
+use Rattle.format.specs.Slots.{least}
+use Rattle.format.specs.Parts.{Kind, information, tokenParameters, layout, Part, size, external}
+use Rattle.format.specs.Reading.{sectionKind, subsectionKind, Fault, fault, Outcome, refused, found, need, andThen, idOf, stated, madeLength}
+use Rattle.format.specs.Rules.{Check, Section, has, maskCovers, hasRequired}
 use Rattle.format.specs.Reading.{partIn, tested, subsectionChecks, subsection, subsections, kindBefore}
-use Rattle.format.specs.Reading.{ruleBefore, sectionChecks, placeOf, closed, sectionRest, section, sections}
-use Rattle.format.specs.Reading.{headerChecks, reading, rowCount, told, answer}
+use Rattle.format.specs.Reading.{ruleBefore, sectionChecks, placeOf, afterSubsections, sectionRest, section, sections}
+use Rattle.format.specs.Reading.{headerChecks, reading, rowCount, asAnswer, answer}
 use Rattle.format.specs.declared.Answer.the-variants.{Refused}
 use Rattle.format.proofs.Finding.{and-split, every-kind}
 use Rattle.format.proofs.Tests.{Hold}
@@ -151,7 +150,7 @@ Inside r s = (1 ≤ stated r) × (stated r ≤ length r)
 -- The rest of a section comes to a listed refusal or to the section.
 rest-comes : (e : ℕ) (full x : Bool) (k : Kind) (at : ℕ) (r : List ℕ) → at + stated r ≤ e → madeLength k r ≤ stated r
     → Inside r (record { head = partIn k r; subs = [] }) → Comes full e (Inside r) (sectionRest full x k at r)
-unfolding sectionRest closed
+unfolding sectionRest afterSubsections
 rest-comes e full x k at r h m w =
     let n : ℕ = madeLength k r in
     let first : ℕ = at + n in
@@ -262,10 +261,10 @@ refusal-place full bs f q = (
 
 -- Every refusal of a token has a number from 1 to 21.
 pub refusal-number : (bs : List ℕ) (n p : ℕ) → answer bs ≡ Refused n p → (1 ≤ n) × (n ≤ 21)
-unfolding answer told
+unfolding answer asAnswer
 refusal-number bs n p e = go (reading true bs) refl e
   where
-    go : (o : Outcome (List Section)) → reading true bs ≡ o → told rowCount o ≡ Refused n p → (1 ≤ n) × (n ≤ 21)
+    go : (o : Outcome (List Section)) → reading true bs ≡ o → asAnswer rowCount o ≡ Refused n p → (1 ≤ n) × (n ≤ 21)
     go (found ss) q w = absurd (let z : _≡_ {A = ℕ} 0 1 = cc in omega arith)
     go (refused f) q w =
         let s : f .number ≡ n = cc in

@@ -17,7 +17,7 @@ pub bigEndian-length : (w n : ℕ) → length (bigEndian w n) ≡ w
 bigEndian-length zero n = refl
 bigEndian-length (suc w) n = simp (length-append, bigEndian-length w (n / 256)) (omega arith)
 
--- One more byte behind makes the number 256 times as large, plus that byte.
+-- One more byte after makes the number 256 times as large, plus that byte.
 numberFrom-last : (bs : List ℕ) (a d : ℕ) → numberFrom a (bs ++ (d ∷ [])) ≡ numberFrom a bs * 256 + d
 numberFrom-last [] a d = refl
 numberFrom-last (b ∷ bs) a d = numberFrom-last bs (a * 256 + b) d
@@ -34,7 +34,7 @@ number-bigEndian (suc w) n h =
 pub bigEndian-inj : (w n m : ℕ) → n < 256 ^ w → m < 256 ^ w → bigEndian w n ≡ bigEndian w m → n ≡ m
 bigEndian-inj w n m h k e = sym (number-bigEndian w n h) ∙ ap number e ∙ number-bigEndian w m k
 
--- The bytes of a number that was read behind another are the bytes of that other and those that were read.
+-- The bytes of a number that was read after another are the bytes of that other and those that were read.
 bigEndian-numberFrom :
     (bs : List ℕ) → Bytes bs → (w a : ℕ) → bigEndian (w + length bs) (numberFrom a bs) ≡ bigEndian w a ++ bs
 bigEndian-numberFrom [] h w a = rw (add-zero, append-nil)
@@ -49,7 +49,7 @@ pub bigEndian-number : (bs : List ℕ) → Bytes bs → bigEndian (length bs) (n
 unfolding number
 bigEndian-number bs h = rw (zero-add (length bs)) at (bigEndian-numberFrom bs h 0 0)
 
--- What bytes state behind a number below b is below b times what their length can state.
+-- What bytes state after a number below b is below b times what their length can state.
 numberFrom-lt : (bs : List ℕ) (a b : ℕ) → Bytes bs → a < b → numberFrom a bs < b * 256 ^ length bs
 numberFrom-lt [] a b h k = omega arith
 numberFrom-lt (x ∷ bs) a b h k =
@@ -61,7 +61,7 @@ pub number-lt : (bs : List ℕ) → Bytes bs → number bs < 256 ^ length bs
 unfolding number
 number-lt bs h = let i = numberFrom-lt bs 0 1 h (omega arith) in omega arith
 
--- Bytes behind bytes are bytes.
+-- Bytes after bytes are bytes.
 pub bytes-append : (a b : List ℕ) → Bytes a → Bytes b → Bytes (a ++ b)
 bytes-append [] b h k = k
 bytes-append (x ∷ a) b h k = (h .0, bytes-append a b (h .1) k)
@@ -72,7 +72,7 @@ bytes-take zero bs h = tt
 bytes-take (suc n) [] h = tt
 bytes-take (suc n) (b ∷ bs) h = (h .0, bytes-take n bs (h .1))
 
--- What is left of bytes behind the first n is bytes.
+-- What is left of bytes after the first n is bytes.
 pub bytes-drop : (n : ℕ) (bs : List ℕ) → Bytes bs → Bytes (drop n bs)
 bytes-drop zero bs h = h
 bytes-drop (suc n) [] h = tt

@@ -21,7 +21,7 @@ use Rattle.format.proofs.Tiling.{rows-tile, row-of, subsection-length, 
 use Rattle.format.proofs.Stepping.{rising}
 use Rattle.format.specs.Claims.{IsRow}
 
--- The owner of a section's row, for parts that stand behind n rows.
+-- The owner of a section's row, for parts that stand after n rows.
 own-from : (at n o : ℕ) (ps : List Part) (k : ℕ) (x : Placed) → getElem? (placed at n o ps) k ≡ some x
     → isSubsection (x .part .kind) ≡ false → x .row .owner ≡ n + k
 own-from at n o [] k x e s = absurd (let z : _≡_ {A = ℕ} 0 1 = cc in omega arith)
@@ -43,7 +43,7 @@ section-owner ps k x e s = own-from 8 0 0 ps k x e s ∙ omega arith
 abbrev SubsTo : List Placed → ℕ → Type 0
 SubsTo xs k = (j : ℕ) (z : Placed) → j ≤ k → getElem? xs j ≡ some z → isSubsection (z .part .kind) ≡ true
 
--- Row m is the last section up to row k: it is a section, and behind it up to row k every row stands for a subsection.
+-- Row m is the last section up to row k: it is a section, and after it up to row k every row stands for a subsection.
 pub record LastSection (xs : List Placed) (m k : ℕ) : Type 0 where
   pub before : m < k
   pub section : (y : Placed) × (getElem? xs m ≡ some y) × (isSubsection (y .part .kind) ≡ false)
@@ -91,7 +91,7 @@ first-sub : (y : Placed) (xs : List Placed) → isSubsection (y .part .kind) ≡
 first-sub y xs s zero z a e = ap (λ (v : Placed). isSubsection (v .part .kind)) (sym (some-inj e)) ∙ s
 first-sub y xs s (suc j) z a e = absurd (omega arith)
 
--- The owner of a subsection's row, for parts that stand behind n rows, o the row of the last section.
+-- The owner of a subsection's row, for parts that stand after n rows, o the row of the last section.
 owner-from : (at n o : ℕ) (ps : List Part) (k : ℕ) (x : Placed) → getElem? (placed at n o ps) k ≡ some x
     → isSubsection (x .part .kind) ≡ true → OwnerIs n o (placed at n o ps) k x
 owner-from at n o [] k x e s = absurd (let z : _≡_ {A = ℕ} 0 1 = cc in omega arith)
@@ -150,7 +150,7 @@ front-covers (p ∷ ps) (suc k) q e h =
     let i = front-covers ps k q e (λ j r a g. h (suc j) r (omega arith) g) in
     omega arith
 
--- A part behind a section, with subsections between, ends within the section's subsections.
+-- A part after a section, with subsections between, ends within the section's subsections.
 section-covers : (ps : List Part) (m k : ℕ) (p q : Part) → m < k → getElem? ps m ≡ some p → getElem? ps k ≡ some q
     → ((j : ℕ) (r : Part) → m < j → j ≤ k → getElem? ps j ≡ some r → isSubsection (r .kind) ≡ true)
     → sizes (take k ps) + size q ≤ sizes (take m ps) + size p + sizes (frontSubs (drop (suc m) ps))
@@ -164,7 +164,7 @@ section-covers (v ∷ ps) (suc m) (suc k) p q l e f h =
     let i = section-covers ps m k p q (omega arith) e f (λ j r a b g. h (suc j) r (omega arith) (omega arith) g) in
     omega arith
 
--- The row of a subsection lies in its owner's row, behind the owner's own fields.
+-- The row of a subsection lies in its owner's row, after the owner's own fields.
 pub owner-covers : (bs : List ℕ) (l : Legal bs) (k : ℕ) (x y : Placed) → IsRow bs l k x
     → isSubsection (x .part .kind) ≡ true → IsRow bs l (x .row .owner) y
     → (y .row .offset + size (y .part) ≤ x .row .offset)

@@ -6,16 +6,17 @@ use Prim.Native.Nat.{ℕ, suc, _+_, _≤_}
 use native.Mathlib.Omega.{arith}
 use lib.ListN.{length, getD, drop}
 use Rattle.format.specs.Bytes.{Bytes, number, bytesAt, allZero}
-use Rattle.format.specs.Layout.{Item, code, zeros, own, count, fixed, counted, Fields, write, slots, fieldsIn, endOf}
-use Rattle.format.specs.Parts.{Kind, sectionId, tag, body, isSubsection, frame, frameLength, layout, Part, size}
-use Rattle.format.specs.Reading.{idOf, stated, bodySlots, madeLength, partIn, zeroChecks}
+use Rattle.format.specs.Layout.{Item, code, zeros, own, count, fixed, counted, Fields, write}
+use Rattle.format.specs.Slots.{slots, fieldsIn, endOf}
+use Rattle.format.specs.Parts.{Kind, sectionId, tag, body, isSubsection, frame, layout, Part, size}
+use Rattle.format.specs.Reading.{frameLength, idOf, stated, bodySlots, madeLength, partIn, zeroChecks}
 use Rattle.format.proofs.Finding.{every-kind}
 use Rattle.format.proofs.Fitting.{Fits}
 use Rattle.format.proofs.Slots.{Laid, sound, laid-written, written-laid}
 use Rattle.format.proofs.Tests.{Hold}
 use Rattle.format.proofs.Unique.{size-any}
 
--- A layout behind the frame: no code and no own length in it.
+-- A layout after the frame: no code and no own length in it.
 abbrev pub plain : List Item → Bool
 plain [] = true
 plain (code w v ∷ l) = false

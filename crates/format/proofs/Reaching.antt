@@ -8,8 +8,8 @@ use lib.Dec.{leb}
 use lib.ListN.{length, getD, length-append, length-take, length-replicate}
 use borrow.Author.Tests.{leb-true}
 use Rattle.format.specs.Bytes.{number, bytesAt}
-use Rattle.format.specs.Layout.{Item, code, zeros, own, count, fixed, counted}
-use Rattle.format.specs.Layout.{least, write, slots, fieldsIn, endOf}
+use Rattle.format.specs.Layout.{Item, code, zeros, own, count, fixed, counted, write}
+use Rattle.format.specs.Slots.{least, slots, fieldsIn, endOf}
 use Rattle.format.proofs.Unique.{size-any}
 use Rattle.format.specs.Parts.{Kind, sectionId, tag, body, isSubsection, layout, sameKind, Part, size, span, writeParts}
 use Rattle.format.specs.Reading.{madeLength, partIn, placeOf}

@@ -8,11 +8,11 @@ use lib.Dec.{leb}
 use lib.ListN.{length, length-append, length-map}
 use borrow.Author.Tests.{leb-true, not-true}
 use Rattle.format.specs.Bytes.{All}
-use Rattle.format.specs.Layout.{least, fits}
+use Rattle.format.specs.Layout.{fits}
+use Rattle.format.specs.Slots.{least}
 use Rattle.format.specs.Parts.{Kind, publicKey, rule, transportVariant, exportParameters, tokenParameters}
-use Rattle.format.specs.Parts.{information, applicationData, isSubsection, layout, sameKind}
-use Rattle.format.specs.Parts.{Part, size, writeParts}
-use Rattle.format.specs.Rules.{Section, external, sectionsOf, sameRuleId, mayBothStand, otherKind}
+use Rattle.format.specs.Parts.{information, applicationData, isSubsection, layout, sameKind, Part, size, writeParts, external}
+use Rattle.format.specs.Rules.{Section, sectionsOf, sameRuleId, mayBothStand, otherKind}
 use Rattle.format.specs.Legal.{Pairwise, Legal}
 use Rattle.format.specs.Reading.{partsOf}
 use Rattle.format.specs.Table.{placed, rows}
@@ -37,11 +37,11 @@ abbrev howOften : {A : Type 0} → (A → Kind) → Kind → List A → ℕ
 howOften g k [] = 0
 howOften g k (x ∷ xs) = one (sameKind k (g x)) + howOften g k xs
 
--- A test lets none of kind k stand behind one of kind k.
+-- A test lets none of kind k stand after one of kind k.
 abbrev Apart : {A : Type 0} → (A → Kind) → (A → A → Bool) → Kind → Type 0
 Apart {A} g t k = (x y : A) → t x y ≡ true → sameKind k (g x) ≡ true → sameKind k (g y) ≡ false
 
--- Behind one of kind k there is no other.
+-- After one of kind k there is no other.
 none-behind : {A : Type 0} (g : A → Kind) (t : A → A → Bool) (k : Kind) (x : A) (xs : List A) → Apart g t k
     → sameKind k (g x) ≡ true → All (λ y. t x y ≡ true) xs → howOften g k xs ≡ 0
 none-behind g t k x [] h e a = refl

@@ -7,7 +7,8 @@ use native.Mathlib.Omega.{arith}
 use lib.Dec.{eqb, lit<}
 use lib.ListN.{length, getD, length-append}
 use Rattle.format.specs.Bytes.{All, number}
-use Rattle.format.specs.Layout.{fits, write, least}
+use Rattle.format.specs.Layout.{fits, write}
+use Rattle.format.specs.Slots.{least}
 use Rattle.format.specs.Parts.{Kind, rule, exportParameters, information, protection, sameKind, layout, Part, size, span, writeParts}
 use Rattle.format.specs.Rules.{Section, has, hasRequired}
 use Rattle.format.specs.Reading.{kindBefore, partsOf}
@@ -99,7 +100,7 @@ has-protection (s ∷ ss) r e = go (sameKind information (s .head .kind)) refl (
         or-right (sameKind protection (s .head .kind)) _
         (has-later protection (s .subs) (partsOf ss) (ih (sym (ap (λ (v : Bool). v || kindBefore information ss) q) ∙ e)))
 
--- So a token has at least 72 bytes behind its header.
+-- So a token has at least 72 bytes after its header.
 pub required-long : (ps : List Part) → AllFit ps → has information ps ≡ true → has protection ps ≡ true → 72 ≤ length (writeParts ps)
 required-long ps f i p =
     let t = two-kinds information protection ps refl refl i p in

@@ -10,7 +10,8 @@ use lib.ListN.{length, getD, take, drop, replicate, length-append, length-drop, 
 use lib.Seq.{length-take-le, getD-append-seam, take-at, drop-at, drop-drop}
 use borrow.Author.Tests.{eqb-true}
 use Rattle.format.specs.Bytes.{Bytes, bigEndian, number, bytesAt, allZero}
-use Rattle.format.specs.Layout.{Item, code, zeros, own, count, fixed, counted, Fields, write, Slot, slots, slotBytes, fieldsIn, endOf}
+use Rattle.format.specs.Layout.{Item, code, zeros, own, count, fixed, counted, Fields, write}
+use Rattle.format.specs.Slots.{Slot, slots, slotBytes, fieldsIn, endOf}
 use Rattle.format.proofs.Numbers.{bigEndian-length, number-bigEndian, bigEndian-number, number-lt, bytes-take, bytes-drop}
 use Rattle.format.proofs.Finding.{and-split}
 use Rattle.format.proofs.Fitting.{Fits}
@@ -22,12 +23,12 @@ pub length-at : (bs : List ℕ) (o n : ℕ) → o + n ≤ length bs → length (
 unfolding bytesAt
 length-at bs o n h = length-take-le n (drop o bs) (simp length-drop (omega arith))
 
--- The bytes at a place, and those behind them.
+-- The bytes at a place, and those after them.
 pub cut-at : (bs : List ℕ) (o n : ℕ) → bytesAt bs o n ++ drop (o + n) bs ≡ drop o bs
 unfolding bytesAt
 cut-at bs o n = rw (← drop-drop n o bs) (take-append-drop n (drop o bs))
 
--- A known front is what stands at the place, and the rest stands behind it.
+-- A known front is what stands at the place, and the rest stands after it.
 pub front-at : (bs : List ℕ) (o n : ℕ) (a x : List ℕ) → length a ≡ n → drop o bs ≡ a ++ x → (bytesAt bs o n ≡ a) × (drop (o + n) bs ≡ x)
 unfolding bytesAt
 front-at bs o n a x l e = (ap (take n) e ∙ take-at a x n l, sym (drop-drop n o bs) ∙ ap (drop n) e ∙ drop-at a x n l)
@@ -99,7 +100,7 @@ sound c (count w k ∷ l) = points l k c && sound (suc c) l
 sound c (fixed n ∷ l) = sound c l
 sound c (counted j ∷ l) = ltb j c && sound c l
 
--- The slots end behind their beginning.
+-- The slots end after their beginning.
 pub end-le : (l : List Item) (ns bs : List ℕ) (o : ℕ) → o ≤ endOf o (slots ns l bs o)
 end-le [] ns bs o = omega arith
 end-le (code w v ∷ l) ns bs o = let i = end-le l ns bs (o + w) in omega arith
@@ -131,7 +132,7 @@ pointed (counted j ∷ l) ns bs o (suc k) c p h e = pointed l ns bs (o + getD ns
 
 -- ---- what is laid out is written so
 
--- A field in front of what is written behind it.
+-- A field in front of what is written after it.
 joined : (bs : List ℕ) (o n : ℕ) (a x z : List ℕ) → a ≡ bytesAt bs o n → x ++ z ≡ drop (o + n) bs → (a ++ x) ++ z ≡ drop o bs
 joined bs o n a x z p q = append-assoc a x z ∙ ap₂ (λ u v. u ++ v) p q ∙ cut-at bs o n
 
@@ -192,7 +193,7 @@ Reads t ns l fs bs o =
     × (fieldsIn bs (slots ns l bs o) ≡ fs)
     × (endOf o (slots ns l bs o) ≡ o + length (write t l fs))
 
--- A front of n bytes, and what is read behind it.
+-- A front of n bytes, and what is read after it.
 behind : (o n e : ℕ) (a x : List ℕ) → length a ≡ n → e ≡ (o + n) + length x → e ≡ o + length (a ++ x)
 behind o n e a x h q = simp length-append (omega arith)
 

@@ -10,13 +10,15 @@ use lib.ListN.{length, getD, take, drop, length-append, length-drop, take-append
 use lib.Seq.{take-at, take-add, length-take-le, drop-drop}
 use borrow.Author.Tests.{eqb-true, eqb-false, leb-true, not-true, ne-eqb}
 use Rattle.format.specs.Bytes.{All, Bytes, number, bytesAt}
-use Rattle.format.specs.Layout.{Item, code, zeros, own, count, fixed, counted, fits, write, least, slots, fieldsIn}
-use Rattle.format.specs.Parts.{Kind, rule, information, sectionId, tag, body, frameLength, kindNumber, sameKind, sectionKind, subsectionKind, isSubsection, layout, Part, size, span, writeParts}
+use Rattle.format.specs.Layout.{Item, code, zeros, own, count, fixed, counted, fits, write}
+use Rattle.format.specs.Slots.{least, slots, fieldsIn}
+use Rattle.format.specs.Parts.{Kind, rule, information, sectionId, tag, body, kindNumber, sameKind, isSubsection, layout, Part, size, span, writeParts}
+use Rattle.format.specs.Reading.{frameLength, sectionKind, subsectionKind}
 use Rattle.format.specs.Rules.{checks, Section, has, sameRuleId, mayBothStand, otherKind, maskCovers, hasRequired}
 use Rattle.format.specs.Legal.{Pairwise}
 use Rattle.format.specs.Reading.{Outcome, refused, found, fault, idOf, stated, bodySlots, madeLength, partIn, zeroChecks, fieldChecks}
 use Rattle.format.specs.Reading.{tested, subsectionChecks, subsection, subsections, holdsSubs, kindBefore, ruleBefore, sectionChecks}
-use Rattle.format.specs.Reading.{closed, sectionRest, section, sections, partsOf}
+use Rattle.format.specs.Reading.{afterSubsections, sectionRest, section, sections, partsOf}
 use Rattle.format.proofs.Numbers.{bytes-take, bytes-drop, same-sym}
 use Rattle.format.proofs.Finding.{and-split, sameKind-eq, sectionKind-sound, subsectionKind-sound}
 use Rattle.format.proofs.Fitting.{Fits-fits}
@@ -155,7 +157,7 @@ pub subs-of : (x : Bool) (o : Kind) (us : List Part) → All (GoodSub x o) us �
 subs-of x o [] h = tt
 subs-of x o (u ∷ us) h = (h .0 .sub, subs-of x o us (h .1))
 
--- One subsection more behind the earlier ones.
+-- One subsection more after the earlier ones.
 sub-bytes : (x : Bool) (o : Kind) (before : List Part) (p : Part) (n : ℕ) (r : List ℕ) → All (GoodSub x o) before
     → SubRead x o before n r p → n ≤ length r
     → (writeParts (before ++ p ∷ []) ++ take (n - stated r) (drop (stated r) r) ≡ writeParts before ++ take n r)
@@ -173,7 +175,7 @@ sub-bytes x o before p n r g s h =
     ∙ append-assoc (writeParts before) (take m r) z
     ∙ ap (λ (y : List ℕ). writeParts before ++ y) (sym (take-add m (n - m) r) ∙ ap (λ (y : ℕ). take y r) (sym sum))
 
--- The subsections that a reading finds keep their rules, and behind the earlier ones they are the bytes read.
+-- The subsections that a reading finds keep their rules, and after the earlier ones they are the bytes read.
 subs-read : (d : ℕ) (x : Bool) (o : Kind) (before : List Part) (at n : ℕ) (r : List ℕ) (us : List Part) → n ≤ length r → Bytes r
     → GoodSubs x o before → subsections d x o before at n r ≡ found us
     → GoodSubs x o us × (writeParts us ≡ writeParts before ++ take n r)
@@ -195,7 +197,7 @@ subs-read (suc d) x o before at (suc m) r us h b g e =
 
 -- ---- sections
 
--- A section whose kind does not stand before may stand behind all earlier ones.
+-- A section whose kind does not stand before may stand after all earlier ones.
 new-kind : (k : Kind) (s : Section) (before : List Section) → s .head .kind ≡ k → kindBefore k before ≡ false
     → All (λ b. mayBothStand b s ≡ true) before
 new-kind k s [] q e = tt
@@ -258,7 +260,7 @@ made-le k r h e = go (holdsSubs k) refl
         let m = eqb-true (madeLength k r) (stated r) (sym (ap (λ (y : Bool). y || eqb (madeLength k r) (stated r)) q) ∙ e) in
         omega arith
 
--- A section that passed its tests on repeats may stand behind all earlier ones.
+-- A section that passed its tests on repeats may stand after all earlier ones.
 new-section : (k : Kind) (s : Section) (before : List Section) → s .head .kind ≡ k
     → (sameKind rule k || not (kindBefore k before)) ≡ true → not (sameKind rule k && ruleBefore (s .head) before) ≡ true
     → All (λ b. mayBothStand b s ≡ true) before
@@ -298,7 +300,7 @@ section-known : (full x : Bool) (k : Kind) (before : List Section) (at : ℕ) (r
     → sectionKind (idOf r) ≡ some k → 4 ≤ length r → Bytes r
     → tested at (sectionChecks x k (kindBefore k before) (ruleBefore (partIn k r) before) r) (sectionRest full x k at r) ≡ found s
     → SectionRead full x before r s
-unfolding sectionRest closed
+unfolding sectionRest afterSubsections
 section-known full x k before at r s q h b e =
     let t = tests-passed at (sectionChecks x k (kindBefore k before) (ruleBefore (partIn k r) before) r) _ s e in
     let id = sectionKind-sound (idOf r) k q in
@@ -354,7 +356,7 @@ section-read full x before at r s b e =
     go h none q w = absurd (refused-not w)
     go h (some k) q w = section-known full x k before at r s q h b w
 
--- What is known of the sections that were read, behind each other.
+-- What is known of the sections that were read, after each other.
 pub record GoodSections (full x : Bool) (ss : List Section) : Type 0 where
   pub each : All (GoodSection full x) ss
   pub pairs : Pairwise mayBothStand ss
@@ -367,7 +369,7 @@ more full x before r s g w = record {
   pairs = pairwise-last mayBothStand before s (g .pairs) (w .new);
 }
 
--- Its bytes stand behind those of the earlier ones.
+-- Its bytes stand after those of the earlier ones.
 section-more : (full x : Bool) (before : List Section) (r : List ℕ) (s : Section) → SectionRead full x before r s
     → writeParts (partsOf (before ++ s ∷ [])) ++ drop (stated r) r ≡ writeParts (partsOf before) ++ r
 section-more full x before r s w =
@@ -376,7 +378,7 @@ section-more full x before r s w =
     ∙ append-assoc (writeParts (partsOf before)) (writeParts (s .head ∷ s .subs)) (drop (stated r) r)
     ∙ ap (λ (y : List ℕ). writeParts (partsOf before) ++ y) (w .form)
 
--- The sections that a reading finds keep their rules, and behind the earlier ones they are the bytes read.
+-- The sections that a reading finds keep their rules, and after the earlier ones they are the bytes read.
 pub sections-read : (d : ℕ) (full x : Bool) (before : List Section) (at : ℕ) (r : List ℕ) (ss : List Section) → Bytes r
     → GoodSections full x before → sections d full x before at r ≡ found ss
     → GoodSections full x ss × (writeParts (partsOf ss) ≡ writeParts (partsOf before) ++ r)

@@ -1,4 +1,4 @@
--- Rows that lie one behind another: their places rise, and a step finds the row that begins at a place.
+-- Rows that lie one after another: their places rise, and a step finds the row that begins at a place.
 use mathlib.Core.Path.{_≡_, refl, sym, ap, _∙_, subst}
 use mathlib.Core.List.{List, [], _∷_, map}
 use mathlib.Core.Option.{some}
@@ -17,13 +17,13 @@ use Rattle.format.proofs.Grouping.{is-true, is-false}
 use Rattle.format.proofs.Elements.{some-inj}
 use Rattle.format.specs.Claims.{Tiles}
 
--- ---- rows that lie one behind another
+-- ---- rows that lie one after another
 
 -- The rows themselves.
 abbrev pub rowsOf : List Placed → List Row
 rowsOf xs = map (λ x. x .row) xs
 
--- Each row begins at the first one's place or behind it, and its part ends within the end.
+-- Each row begins at the first one's place or after it, and its part ends within the end.
 between : (at e : ℕ) (xs : List Placed) (k : ℕ) (x : Placed) → Tiles at xs e → getElem? xs k ≡ some x
     → (at ≤ x .row .offset) × (x .row .offset + size (x .part) ≤ e)
 between at e [] k x t g = absurd (let z : _≡_ {A = ℕ} 0 1 = cc in omega arith)
@@ -39,7 +39,7 @@ between at e (y ∷ xs) zero x t g =
     ends at e (y ∷ xs) t = let i = ends (at + size (y .part)) e xs (t .1) in omega arith
 between at e (y ∷ xs) (suc k) x t g = let i = between (at + size (y .part)) e xs k x (t .1) g in (omega arith, i .1)
 
--- A later row begins where an earlier one's part ends, or behind it.
+-- A later row begins where an earlier one's part ends, or after it.
 pub rising : (at e : ℕ) (xs : List Placed) (j k : ℕ) (x y : Placed) → Tiles at xs e → j < k → getElem? xs j ≡ some x
     → getElem? xs k ≡ some y → x .row .offset + size (x .part) ≤ y .row .offset
 rising at e [] j k x y t h f g = absurd (let z : _≡_ {A = ℕ} 0 1 = cc in omega arith)
@@ -74,7 +74,7 @@ step-first : (e : ℕ) (r : Row) (rs : List Row) (at : ℕ) → at ≡ r .offset
 step-first e r rs at h =
     is-true (eqb at (r .offset)) (Record r (nextPlace e rs)) (stepIn e rs at) (eq-eqb at (r .offset) h)
 
--- At another place the step goes on to the rows behind.
+-- At another place the step goes on to the rows after.
 step-later : (e : ℕ) (r : Row) (rs : List Row) (at : ℕ) → (at ≡ r .offset → ⊥) → stepIn e (r ∷ rs) at ≡ stepIn e rs at
 step-later e r rs at h =
     is-false (eqb at (r .offset)) (Record r (nextPlace e rs)) (stepIn e rs at) (ne-eqb at (r .offset) h)

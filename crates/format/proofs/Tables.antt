@@ -12,7 +12,7 @@ use Rattle.format.specs.Bytes.{Bytes}
 use Rattle.format.specs.Parts.{Part}
 use Rattle.format.specs.Rules.{Section, sectionsOf}
 use Rattle.format.specs.Legal.{Legal}
-use Rattle.format.specs.Reading.{Fault, Outcome, refused, found, fault, need, andThen, place, reading, partsOf, rowCount, told, answer}
+use Rattle.format.specs.Reading.{Fault, Outcome, refused, found, fault, need, andThen, place, reading, partsOf, rowCount, asAnswer, answer}
 use Rattle.format.specs.Table.{rows, columns, tableOf, roomFor, tableReading, tableAnswer, tableAfter}
 use Rattle.format.specs.GivenNumbers.{numberOf}
 use Rattle.format.specs.declared.Answer.{Answer}
@@ -117,9 +117,9 @@ table-holds bs t l h =
     ∙ ap₂ (λ (ps : List Part) (n : ℕ). tableOf (rows ps) ++ drop (columns * n) t) (legal-parts bs l) (counts bs l)
 
 -- A refusal of reading into a table leaves the table.
-refused-kept : (o : Outcome (List Section)) (t : List ℕ) (n p : ℕ) → told rowCount o ≡ Refused n p
+refused-kept : (o : Outcome (List Section)) (t : List ℕ) (n p : ℕ) → asAnswer rowCount o ≡ Refused n p
     → elim o as (λ y. List ℕ) [ refused f ↦ t | found ss ↦ tableOf (rows (partsOf ss)) ++ drop (columns * rowCount ss) t ] ≡ t
-unfolding told
+unfolding asAnswer
 refused-kept (refused f) t n p e = refl
 refused-kept (found ss) t n p e = absurd (let z : _≡_ {A = ℕ} 0 1 = cc in omega arith)
 
@@ -128,19 +128,19 @@ unfolding tableAnswer tableAfter
 table-kept bs t n p e = refused-kept (tableReading bs t) t n p e
 
 -- The refusal 23 is the table's alone: it comes where a token is legal and its rows have no room.
-told-refused : (o : Outcome (List Section)) (n p : ℕ) → told rowCount o ≡ Refused n p → (f : Fault) × (o ≡ refused f) × (f .number ≡ n) × (place f ≡ p)
-unfolding told
+told-refused : (o : Outcome (List Section)) (n p : ℕ) → asAnswer rowCount o ≡ Refused n p → (f : Fault) × (o ≡ refused f) × (f .number ≡ n) × (place f ≡ p)
+unfolding asAnswer
 told-refused (refused f) n p e = (f, refl, cc, cc)
 told-refused (found ss) n p e = absurd (let z : _≡_ {A = ℕ} 0 1 = cc in omega arith)
 
-short : (b : Bool) (m l n : ℕ) (ss : List Section) → leb m l ≡ b → told rowCount (need b (fault 23 (rowCount ss) 0) (found ss)) ≡ Refused 23 n
+short : (b : Bool) (m l n : ℕ) (ss : List Section) → leb m l ≡ b → asAnswer rowCount (need b (fault 23 (rowCount ss) 0) (found ss)) ≡ Refused 23 n
     → (l < m) × (rowCount ss ≡ n)
-unfolding told need
+unfolding asAnswer need
 short true m l n ss q e = absurd (let z : _≡_ {A = ℕ} 0 1 = cc in omega arith)
 short false m l n ss q e = (leb-false m l q, cc)
 
 lacks : (bs t : List ℕ) (n : ℕ) → Bytes bs → (o : Outcome (List Section)) → reading true bs ≡ o
-    → told rowCount (andThen o (λ ss. need (roomFor (partsOf ss) t) (fault 23 (rowCount ss) 0) (found ss))) ≡ Refused 23 n
+    → asAnswer rowCount (andThen o (λ ss. need (roomFor (partsOf ss) t) (fault 23 (rowCount ss) 0) (found ss))) ≡ Refused 23 n
     → (l : Legal bs) × (n ≡ length (rows (l .parts))) × (length t < columns * n)
 unfolding andThen
 lacks bs t n b (refused f) q e =
@@ -159,11 +159,11 @@ lacks bs t n b (found ss) q e =
 
 pub no-room : (bs t : List ℕ) (n : ℕ) → Bytes bs
     → (tableAnswer bs t ≡ Refused 23 n) ↔ ((l : Legal bs) × (n ≡ length (rows (l .parts))) × (length t < columns * n))
-unfolding tableAnswer tableReading told
+unfolding tableAnswer tableReading asAnswer
 no-room bs t n b = (
   (λ e. lacks bs t n b (reading true bs) refl e),
   λ w.
       let l = w .0 in
       let h : length t < columns * length (rows (l .parts)) = (let a = w .1 in let c = w .2 in omega arith) in
-      ap (told rowCount) (cramped bs t l h) ∙ ap (Refused 23) (sym (w .1)),
+      ap (asAnswer rowCount) (cramped bs t l h) ∙ ap (Refused 23) (sym (w .1)),
 )

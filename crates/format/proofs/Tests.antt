@@ -16,7 +16,7 @@ refused-not {A} {f} {a} e = let z : _≡_ {A = ℕ} 0 1 = cc in omega arith
 pub found-inj : {A : Type 0} {a b : A} → found a ≡ found b → a ≡ b
 found-inj e = cc
 
--- Where something is found behind a test, the test has passed.
+-- Where something is found after a test, the test has passed.
 pub needed : {A : Type 0} (b : Bool) (f : Fault) (rest : Outcome A) (a : A) → need b f rest ≡ found a → (b ≡ true) × (rest ≡ found a)
 unfolding need
 needed true f rest a e = (refl, e)
@@ -32,7 +32,7 @@ pub need-failed : {A : Type 0} (b : Bool) (f : Fault) (rest : Outcome A) → b �
 unfolding need
 need-failed b f rest e = rw e
 
--- Where something is found behind an outcome, that found something too.
+-- Where something is found after an outcome, that found something too.
 pub followed : {A B : Type 0} (o : Outcome A) (next : A → Outcome B) (b : B) → andThen o next ≡ found b
     → (a : A) × (o ≡ found a) × (next a ≡ found b)
 unfolding andThen
@@ -53,7 +53,7 @@ then-refused next e = rw e
 abbrev pub Hold : List Check → Type 0
 Hold cs = All (λ (c : Check). c .holds ≡ true) cs
 
--- Where something is found behind a list of tests, all have passed.
+-- Where something is found after a list of tests, all have passed.
 pub tests-passed : {A : Type 0} (at : ℕ) (cs : List Check) (rest : Outcome A) (a : A) → tested at cs rest ≡ found a
     → Hold cs × (rest ≡ found a)
 unfolding tested

@@ -22,14 +22,14 @@ use Rattle.format.proofs.Reaching.{sizes-written, sizes}
 use Rattle.format.proofs.Elements.{some-inj}
 use Rattle.format.specs.Claims.{Tiles, IsRow, subsOf}
 
--- ---- the rows lie one behind another
+-- ---- the rows lie one after another
 
 -- The rows of parts from place `at` on end where the parts' bytes end.
 placed-tile : (at n o : ℕ) (ps : List Part) (e : ℕ) → at + sizes ps ≡ e → Tiles at (placed at n o ps) e
 placed-tile at n o [] e h = omega arith
 placed-tile at n o (p ∷ ps) e h = (refl, placed-tile (at + size p) (suc n) _ ps e (omega arith))
 
--- Behind the header of a legal token stand its parts.
+-- After the header of a legal token stand its parts.
 behind-eight : (bs : List ℕ) (l : Legal bs) → drop 8 bs ≡ writeParts (l .parts)
 behind-eight bs l = ap (drop 8) (sym (l .form .same))
 
@@ -178,7 +178,7 @@ section-length bs l k x e s =
     ∙ span-section (x .part) (drop (suc k) (l .parts)) s
     ∙ ap (λ (n : ℕ). size (x .part) + n) (front-sizes (drop (suc k) (l .parts)))
 
--- Every row lies behind the header and ends within the token; it has bytes of its own, four at least.
+-- Every row lies after the header and ends within the token; it has bytes of its own, four at least.
 pub row-inside : (bs : List ℕ) (l : Legal bs) (k : ℕ) (x : Placed) → IsRow bs l k x
     → (8 ≤ x .row .offset) × (4 ≤ size (x .part)) × (size (x .part) ≤ x .row .length)
     × (x .row .offset + x .row .length ≤ length bs)

@@ -9,8 +9,10 @@ use lib.Dec.{leb}
 use lib.ListN.{length, drop, length-drop}
 use borrow.Author.Tests.{leb-true}
 use Rattle.format.specs.Bytes.{number, bytesAt}
-use Rattle.format.specs.Layout.{Item, least}
-use Rattle.format.specs.Parts.{Kind, information, sectionId, tag, body, isSubsection, frame, layout, sectionKind, subsectionKind, Part}
+use Rattle.format.specs.Layout.{Item}
+use Rattle.format.specs.Slots.{least}
+use Rattle.format.specs.Parts.{Kind, information, sectionId, tag, body, isSubsection, frame, layout, Part}
+use Rattle.format.specs.Reading.{sectionKind, subsectionKind}
 use Rattle.format.specs.Rules.{Section, has}
 use Rattle.format.specs.Reading.{Outcome, refused, found, fault, need, andThen, tested, idOf, stated, partIn, subsectionChecks, subsection, subsections}
 use Rattle.format.specs.Reading.{kindBefore, ruleBefore, sectionChecks, sectionRest, section, sections}
@@ -85,7 +87,7 @@ pub subs-none : (x : Bool) (o : Kind) (before : List Part) (at : ℕ) (r : List 
 unfolding subsectionsFrom subsections
 subs-none x o before at r = refl
 
--- Where bytes are left, one subsection is read and the rest behind it.
+-- Where bytes are left, one subsection is read and the rest after it.
 pub subs-more : (x : Bool) (o : Kind) (before : List Part) (at n : ℕ) (r : List ℕ) → 0 < n
     → subsectionsFrom x o before at n r
     ≡ andThen (subsection x o before at n r) (λ p. subsectionsFrom x o (before ++ p ∷ []) (at + stated r) (n - stated r) (drop (stated r) r))
@@ -148,7 +150,7 @@ unfolding sectionsFrom sections
 sections-none full x before at [] h = refl
 sections-none full x before at (b ∷ bs) h = absurd (omega arith)
 
--- Where bytes are left, one section is read and the rest behind it.
+-- Where bytes are left, one section is read and the rest after it.
 pub sections-more : (full x : Bool) (before : List Section) (at : ℕ) (r : List ℕ) → 0 < length r
     → sectionsFrom full x before at r
     ≡ andThen (section full x before at r) (λ s. sectionsFrom full x (before ++ s ∷ []) (at + stated r) (drop (stated r) r))

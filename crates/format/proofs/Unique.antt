@@ -199,7 +199,7 @@ sides true true m n x y p q e = refl
 sides false true m n x y p q e = absurd (omega arith)
 sides true false m n x y p q e = absurd (omega arith)
 
--- The bytes of the subsections behind the first part are told by those in front and by the length that it states.
+-- The bytes of the subsections after the first part are told by those in front and by the length that it states.
 tails : (b : Bool) (m n y : ℕ) → pick b (m + n) 0 ≡ pick b (m + y) 0 → m + pick b 0 n ≡ m + pick b 0 y → n ≡ y
 tails false m n y p q = omega arith
 tails true m n y p q = omega arith

@@ -9,10 +9,10 @@ use native.Mathlib.Omega.{arith}
 use lib.ListN.{length, take, drop, getElem?, length-append, drop-of-length-le}
 use lib.Seq.{drop-drop, drop-at}
 use Rattle.format.specs.Bytes.{Bytes, number, bytesAt}
-use Rattle.format.specs.Layout.{write, Slot, slotBytes}
-use Rattle.format.specs.Layout.{fieldsIn, endOf}
-use Rattle.format.specs.Parts.{layout, Part, writeParts}
-use Rattle.format.specs.Rules.{Section, external, sectionsOf}
+use Rattle.format.specs.Layout.{write}
+use Rattle.format.specs.Slots.{Slot, slotBytes, fieldsIn, endOf}
+use Rattle.format.specs.Parts.{layout, Part, writeParts, external}
+use Rattle.format.specs.Rules.{Section, sectionsOf}
 use Rattle.format.specs.Legal.{Legal, joined}
 use Rattle.format.specs.Reading.{Fault, refused, found, reading, partsOf}
 use Rattle.format.specs.Table.{Placed, placed}
@@ -161,7 +161,7 @@ at-inj e = (cc, cc)
 not-at : {o n a b : ℕ} → At o n ≡ Missing a b → ⊥
 not-at e = let z : _≡_ {A = ℕ} 0 1 = cc in omega arith
 
--- Where a field of a legal token lies, it lies behind the header and ends within the token.
+-- Where a field of a legal token lies, it lies after the header and ends within the token.
 pub field-inside : (bs : List ℕ) (l : Legal bs) (k j o n : ℕ) → fieldAt bs k j ≡ At o n → (8 ≤ o) × (o + n ≤ length bs)
 field-inside bs l k j o n w = of (getElem? (placed 8 0 0 (l .parts)) k) refl
   where

@@ -83,7 +83,7 @@ walk-end zero bs e = (refl, refl)
 walk-end (suc d) bs e =
     (rw (e, walk), ap (λ (s : Step). walkPlace d bs (placeAfter (length bs) s)) e ∙ walk-end d bs e .1)
 
--- The walk over rows that lie one behind another up to the token's end gives them, and ends there.
+-- The walk over rows that lie one after another up to the token's end gives them, and ends there.
 walk-rows : (bs : List ℕ) (d at : ℕ) (xs : List Placed) → Tiles at xs (length bs) → Steps bs xs
     → stepAt bs (length bs) ≡ End → length xs ≤ d → (walk d bs at ≡ rowsOf xs) × (walkPlace d bs at ≡ length bs)
 walk-rows bs d at [] t s e h =

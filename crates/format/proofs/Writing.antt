@@ -12,10 +12,10 @@ use lib.Seq.{take-at, take-all}
 use borrow.Author.Tests.{le-leb}
 use Rattle.format.specs.Bytes.{All, Bytes}
 use Rattle.format.specs.Layout.{fits}
-use Rattle.format.specs.Parts.{layout, Part, written, Choice, WrittenForm}
-use Rattle.format.specs.Rules.{external, Section, sectionsOf, hasRequired}
-use Rattle.format.specs.Legal.{knownId, Lawful, Legal}
-use Rattle.format.specs.Reading.{Outcome, refused, found, andThen, idOf, stated, told, lengthAllowed, reading, partsOf}
+use Rattle.format.specs.Parts.{layout, Part, written, Choice, WrittenForm, external, knownId}
+use Rattle.format.specs.Rules.{Section, sectionsOf, hasRequired}
+use Rattle.format.specs.Legal.{Lawful, Legal}
+use Rattle.format.specs.Reading.{Outcome, refused, found, andThen, idOf, stated, asAnswer, lengthAllowed, reading, partsOf}
 use Rattle.format.specs.Writer.{draftAfter, start, longer, addition, finish}
 use Rattle.format.specs.declared.Answer.the-variants.{Accepted}
 use Rattle.format.proofs.Finding.{and-join}
@@ -126,7 +126,7 @@ accepted-lawful i ps bs ss c h e r =
     (form-of i ps bs c h (sym e)) in
     subst (λ (qs : List Part). Lawful i qs) (one .1) (subst (λ (j : ℕ). Lawful j (partsOf ss)) (one .0) (good-lawful false (idOf bs) ss (s .known) (s .good)))
 
--- An accepted addition makes the draft of the parts with the added one behind them.
+-- An accepted addition makes the draft of the parts with the added one after them.
 added : (i : ℕ) (ps : List Part) (d : List ℕ) (p : Part) (bs : List ℕ) → Draft i ps d → All Bytes (p .fields)
     → addition (p .kind) (p .fields) d ≡ found bs → Draft i (ps ++ p ∷ []) (draftAfter (found bs) d)
 added i ps d p bs w b e =
@@ -205,13 +205,13 @@ run-adds (q ∷ qs) i ps d w c l h k =
 
 -- ---- finishing
 
-pub told-accepted : {A : Type 0} (f : A → ℕ) (o : Outcome A) (n : ℕ) → told f o ≡ Accepted n → (a : A) × (o ≡ found a) × (f a ≡ n)
-unfolding told
+pub told-accepted : {A : Type 0} (f : A → ℕ) (o : Outcome A) (n : ℕ) → asAnswer f o ≡ Accepted n → (a : A) × (o ≡ found a) × (f a ≡ n)
+unfolding asAnswer
 told-accepted f (refused g) n e = absurd (let z : _≡_ {A = ℕ} 0 1 = cc in omega arith)
 told-accepted f (found a) n e = (a, refl, cc)
 
-pub told-found : {A : Type 0} (f : A → ℕ) {o : Outcome A} {a : A} → o ≡ found a → told f o ≡ Accepted (f a)
-unfolding told
+pub told-found : {A : Type 0} (f : A → ℕ) {o : Outcome A} {a : A} → o ≡ found a → asAnswer f o ≡ Accepted (f a)
+unfolding asAnswer
 told-found f e = rw e
 
 -- Finishing accepts exactly where the draft's first bytes are a legal token, and gives their length.

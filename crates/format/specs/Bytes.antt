@@ -19,7 +19,7 @@ abbrev pub bigEndian : ℕ → ℕ → List ℕ
 bigEndian zero n = []
 bigEndian (suc w) n = bigEndian w (n / 256) ++ (n % 256 ∷ [])
 
--- the number that bytes state behind those that state a
+-- the number that bytes state after those that state a
 abbrev pub numberFrom : ℕ → List ℕ → ℕ
 numberFrom a [] = a
 numberFrom a (b ∷ bs) = numberFrom (a * 256 + b) bs

@@ -6,7 +6,7 @@ use mathlib.Core.Option.{some}
 use Prim.Native.Nat.{ℕ, zero, suc, _+_, _/_, _%_}
 use lib.Dec.{eqb}
 use lib.ListN.{length, drop, set, getElem?}
-use Rattle.format.specs.Layout.{Slot, slots}
+use Rattle.format.specs.Slots.{Slot, slots}
 use Rattle.format.specs.Parts.{Part, isSubsection, layout, size, writeParts}
 use Rattle.format.specs.Rules.{Section, frontSubs}
 use Rattle.format.specs.Legal.{Legal}
@@ -23,12 +23,12 @@ use Rattle.format.specs.declared.Step.the-variants.{Record, End, Stopped
 abbrev pub IsRow : (bs : List ℕ) → Legal bs → ℕ → Placed → Type 0
 IsRow bs l k x = getElem? (placed 8 0 0 (l .parts)) k ≡ some x
 
--- The rows from place `at` on lie one behind another, each as long as its part without its subsections, and end at e.
+-- The rows from place `at` on lie one after another, each as long as its part without its subsections, and end at e.
 abbrev pub Tiles : ℕ → List Placed → ℕ → Type 0
 Tiles at [] e = at ≡ e
 Tiles at (x ∷ xs) e = (x .row .offset ≡ at) × Tiles (at + size (x .part)) xs e
 
--- The subsections of a part, the parts behind it given: those in front of the next section, and none for a subsection.
+-- The subsections of a part, the parts after it given: those in front of the next section, and none for a subsection.
 abbrev pub subsOf : Part → List Part → List Part
 subsOf p ps = elim (isSubsection (p .kind)) [ true ↦ [] | false ↦ frontSubs ps ]
 
@@ -71,6 +71,6 @@ additions (p ∷ ps) d = andThen (addition (p .kind) (p .fields) d) (λ bs. addi
 abbrev pub restate : ℕ → ℕ → List ℕ → List ℕ
 restate at n bs = set (set bs (at + 2) (n / 256 % 256)) (at + 3) (n % 256)
 
--- The place of the section behind these.
+-- The place of the section after these.
 abbrev pub sectionsEnd : List Section → ℕ
 sectionsEnd ss = 8 + length (writeParts (partsOf ss))

@@ -4,7 +4,6 @@ use mathlib.Core.Bool.{Bool, true, false}
 use mathlib.Core.List.{List, [], _∷_, _++_}
 use Prim.Native.Nat.{ℕ}
 use lib.ListN.{replicate, set}
-use Rattle.format.specs.Parts.{Part, information, protection}
 use Rattle.format.specs.Forms.{dateExists}
 use Rattle.format.specs.Reading.{answer}
 use Rattle.format.specs.declared.Answer.{Answer}
@@ -17,13 +16,6 @@ tokenT =
     ∷ 0x14 ∷ 0 ∷ 0 ∷ 72 ∷ 0 ∷ 0 ∷ 0 ∷ 0 ∷ 0 ∷ 0
     ∷ 0 ∷ 1 ∷ 0 ∷ 62 ∷ 0 ∷ 0
     ∷ replicate 56 0
-
--- the parts of the smallest token
-abbrev pub partsT : List Part
-partsT =
-    record { kind = information; fields = replicate 4 0 ∷ [] }
-    ∷ record { kind = protection; fields = replicate 32 0 ∷ replicate 8 0 ∷ replicate 16 0 ∷ [] }
-    ∷ []
 
 -- the smallest token with a bare rule of this Rule ID after its other section
 abbrev pub withRule : List ℕ → List ℕ

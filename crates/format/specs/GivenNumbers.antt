@@ -37,7 +37,7 @@ stepNumber (Record r n) = 0
 stepNumber End = 0
 stepNumber (Stopped n p) = n
 
--- the same where a row is asked for by its number: behind the last row there is none
+-- the same where a row is asked for by its number: after the last row there is none
 unfoldable pub rowAnswer : Step → ℕ
 rowAnswer (Record r n) = 0
 rowAnswer End = 22

@@ -1,11 +1,11 @@
--- A layout is the list of a part's fields, as data. From it come the written bytes, the test of the fields that a
--- writer is lent, the least length, and the place of every field in bytes that are read.
+-- A layout is the list of a part's fields, as data. From it come the written bytes and the test of the fields that a
+-- writer is lent; Slots has what reading takes from it.
 use mathlib.Core.Bool.{Bool, true, false, _&&_}
 use mathlib.Core.List.{List, [], _∷_, _++_}
-use Prim.Native.Nat.{ℕ, _+_, _^_}
+use Prim.Native.Nat.{ℕ, _^_}
 use lib.Dec.{eqb, ltb}
 use lib.ListN.{length, getD, drop, replicate}
-use Rattle.format.specs.Bytes.{bigEndian, number, bytesAt}
+use Rattle.format.specs.Bytes.{bigEndian}
 
 -- a field of a layout, with its length in bytes
 pub data Item : Type 0 where
@@ -43,54 +43,3 @@ fits ns (fixed n ∷ l) [] = false
 fits ns (fixed n ∷ l) (f ∷ fs) = eqb (length f) n && fits ns l fs
 fits ns (counted s ∷ l) [] = false
 fits ns (counted s ∷ l) (f ∷ fs) = eqb (length f) (getD ns s 0) && fits ns l fs
-
--- the plain number in a part's length: all that no count states
-abbrev pub least : List Item → ℕ
-least [] = 0
-least (code w v ∷ l) = w + least l
-least (zeros n q ∷ l) = n + least l
-least (own w ∷ l) = w + least l
-least (count w k ∷ l) = w + least l
-least (fixed n ∷ l) = n + least l
-least (counted s ∷ l) = least l
-
--- where a field lies: its offset in the part and its length
-pub record Slot : Type 0 where
-  pub item : Item
-  pub offset : ℕ
-  pub width : ℕ
-
--- the slots of the fields in bytes that begin with the part, from offset o on
-abbrev pub slots : List ℕ → List Item → List ℕ → ℕ → List Slot
-slots ns [] bs o = []
-slots ns (code w v ∷ l) bs o = record { item = code w v; offset = o; width = w } ∷ slots ns l bs (o + w)
-slots ns (zeros n q ∷ l) bs o = record { item = zeros n q; offset = o; width = n } ∷ slots ns l bs (o + n)
-slots ns (own w ∷ l) bs o = record { item = own w; offset = o; width = w } ∷ slots ns l bs (o + w)
-slots ns (count w k ∷ l) bs o =
-    record { item = count w k; offset = o; width = w } ∷ slots (ns ++ (number (bytesAt bs o w) ∷ [])) l bs (o + w)
-slots ns (fixed n ∷ l) bs o = record { item = fixed n; offset = o; width = n } ∷ slots ns l bs (o + n)
-slots ns (counted s ∷ l) bs o =
-    record { item = counted s; offset = o; width = getD ns s 0 } ∷ slots ns l bs (o + getD ns s 0)
-
--- the bytes of a slot
-abbrev pub slotBytes : List ℕ → Slot → List ℕ
-slotBytes bs s = bytesAt bs (s .offset) (s .width)
-
--- the chosen fields that lie in the slots
-abbrev pub fieldsIn : List ℕ → List Slot → Fields
-fieldsIn bs [] = []
-fieldsIn bs (s ∷ ss) =
-    let fs = fieldsIn bs ss in
-    elim (s .item) [
-      | code w v ↦ fs
-      | zeros n q ↦ fs
-      | own w ↦ fs
-      | count w k ↦ fs
-      | fixed n ↦ slotBytes bs s ∷ fs
-      | counted c ↦ slotBytes bs s ∷ fs
-    ]
-
--- the offset behind the last slot, o where there is none
-abbrev pub endOf : ℕ → List Slot → ℕ
-endOf o [] = o
-endOf o (s ∷ ss) = endOf (s .offset + s .width) ss

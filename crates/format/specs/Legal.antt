@@ -1,22 +1,17 @@
 -- The legal tokens: the written forms of the choices that keep every rule.
 use mathlib.Core.Path.{_≡_}
-use mathlib.Core.Bool.{Bool, true, false, _||_}
+use mathlib.Core.Bool.{Bool, true, false}
 use mathlib.Core.List.{List, [], _∷_, _++_}
 use Prim.Native.Nat.{ℕ, _+_, _≤_}
-use lib.Dec.{eqb}
 use lib.ListN.{length}
 use Rattle.format.specs.Bytes.{All}
-use Rattle.format.specs.Parts.{rule, information, sameKind, Part, WrittenForm}
-use Rattle.format.specs.Rules.{Check, external, checks, Section, sectionsOf, mayBothStand, otherKind, maskCovers, has, hasRequired}
+use Rattle.format.specs.Parts.{rule, information, external, knownId, sameKind, Part, WrittenForm}
+use Rattle.format.specs.Rules.{Check, checks, Section, sectionsOf, mayBothStand, otherKind, maskCovers, has, hasRequired}
 
 -- any two elements of the list, the earlier first, pass the test
 abbrev pub Pairwise : {A : Type 0} → (A → A → Bool) → List A → Type 0
 Pairwise f [] = Unit {0}
 Pairwise f (x ∷ xs) = All (λ y. f x y ≡ true) xs × Pairwise f xs
-
--- external or internal
-abbrev pub knownId : ℕ → Bool
-knownId i = eqb i 0x1E || eqb i 0x1F
 
 -- the choice keeps every rule but those of refusal 20
 pub record Lawful (i : ℕ) (ps : List Part) : Type 0 where

@@ -4,6 +4,7 @@ pub mod Parts
 pub mod Forms
 pub mod Rules
 pub mod Legal
+pub mod Slots
 pub mod Reading
 pub mod Table
 pub mod Views

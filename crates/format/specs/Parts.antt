@@ -2,7 +2,6 @@
 use mathlib.Core.Path.{_≡_}
 use mathlib.Core.Bool.{Bool, true, false, not, _&&_, _||_}
 use mathlib.Core.List.{List, [], _∷_, _++_}
-use mathlib.Core.Option.{Option, none, some}
 use Prim.Native.Nat.{ℕ, zero, suc, _+_, _*_, _^_, _<_}
 use lib.Dec.{eqb}
 use lib.ListN.{length}
@@ -95,10 +94,6 @@ abbrev pub frame : Bool → ℕ → ℕ → List Item
 frame false i g = code 1 i ∷ zeros 1 8 ∷ own 2 ∷ []
 frame true i g = code 2 g ∷ own 2 ∷ zeros 1 8 ∷ []
 
--- the length of that beginning
-abbrev pub frameLength : Kind → ℕ
-frameLength k = elim (isSubsection k) [ false ↦ 4 | true ↦ 5 ]
-
 -- all fields of the kind; their numbers are their places in this list, from 0
 abbrev pub layout : Kind → List Item
 layout k = frame (isSubsection k) (sectionId k) (tag k) ++ body k
@@ -107,25 +102,20 @@ layout k = frame (isSubsection k) (sectionId k) (tag k) ++ body k
 abbrev pub header : List Item
 header = fixed 1 ∷ zeros 1 3 ∷ own 2 ∷ zeros 4 5 ∷ []
 
+-- external
+abbrev pub external : ℕ → Bool
+external i = eqb i 0x1E
+
+-- external or internal
+abbrev pub knownId : ℕ → Bool
+knownId i = external i || eqb i 0x1F
+
 -- the number of the kind in a row: section id times 65,536 plus tag
 abbrev pub kindNumber : Kind → ℕ
 kindNumber k = sectionId k * 65536 + tag k
 
 abbrev pub sameKind : Kind → Kind → Bool
 sameKind j k = eqb (kindNumber j) (kindNumber k)
-
--- the first kind of the list that passes the test
-abbrev pub firstKind : (Kind → Bool) → List Kind → Option Kind
-firstKind f [] = none
-firstKind f (k ∷ ks) = elim (f k) [ true ↦ some k | false ↦ firstKind f ks ]
-
--- the kind of the section with this id
-abbrev pub sectionKind : ℕ → Option Kind
-sectionKind i = firstKind (λ k. not (isSubsection k) && eqb (sectionId k) i) kinds
-
--- the kind of the subsection with this tag in a section of kind o
-abbrev pub subsectionKind : Kind → ℕ → Option Kind
-subsectionKind o g = firstKind (λ k. isSubsection k && (eqb (sectionId k) (sectionId o) && eqb (tag k) g)) kinds
 
 -- 01's part: a kind with the bytes of its chosen fields
 pub record Part : Type 0 where
@@ -141,7 +131,7 @@ abbrev pub subsectionsLength : List Part → ℕ
 subsectionsLength [] = 0
 subsectionsLength (p ∷ ps) = elim (isSubsection (p .kind)) [ true ↦ size p + subsectionsLength ps | false ↦ 0 ]
 
--- what the part's own length field states, with the parts behind it: a section's covers its subsections
+-- what the part's own length field states, with the parts after it: a section's covers its subsections
 abbrev pub span : Part → List Part → ℕ
 span p ps = size p + elim (isSubsection (p .kind)) as (λ b. ℕ) [ true ↦ 0 | false ↦ subsectionsLength ps ]
 

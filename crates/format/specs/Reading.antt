@@ -2,16 +2,16 @@
 -- and a draft, which is read under all rules but those of refusal 20.
 use mathlib.Core.Bool.{Bool, true, false, not, _&&_, _||_}
 use mathlib.Core.List.{List, [], _∷_, _++_}
-use mathlib.Core.Option.{none, some}
+use mathlib.Core.Option.{Option, none, some}
 use Prim.Native.Nat.{ℕ, zero, suc, _+_, _-_}
 use lib.Dec.{eqb, leb}
 use lib.ListN.{length, take, drop}
 use Rattle.format.specs.Bytes.{number, bytesAt, allZero}
-use Rattle.format.specs.Layout.{code, zeros, own, count, fixed, counted, least, Slot, slots, slotBytes, fieldsIn, endOf}
-use Rattle.format.specs.Parts.{Kind, rule, information, tokenParameters, body, layout, frameLength}
-use Rattle.format.specs.Parts.{sameKind, sectionKind, subsectionKind, Part, size}
-use Rattle.format.specs.Rules.{Check, check, external, checks, Section, has, sameRuleId, maskCovers, hasRequired}
-use Rattle.format.specs.Legal.{knownId}
+use Rattle.format.specs.Layout.{code, zeros, own, count, fixed, counted}
+use Rattle.format.specs.Slots.{least, Slot, slots, slotBytes, fieldsIn, endOf}
+use Rattle.format.specs.Parts.{Kind, kinds, rule, information, tokenParameters, sectionId, tag, body, isSubsection, layout}
+use Rattle.format.specs.Parts.{sameKind, Part, size, external, knownId}
+use Rattle.format.specs.Rules.{Check, check, checks, Section, has, sameRuleId, maskCovers, hasRequired}
 use Rattle.format.specs.declared.Answer.{Answer}
 use Rattle.format.specs.declared.Answer.the-variants.{Accepted, Refused}
 
@@ -46,6 +46,23 @@ andThen (found a) next = next a
 
 -- ---- one part
 
+-- the first kind of the list that passes the test
+abbrev pub firstKind : (Kind → Bool) → List Kind → Option Kind
+firstKind f [] = none
+firstKind f (k ∷ ks) = elim (f k) [ true ↦ some k | false ↦ firstKind f ks ]
+
+-- the kind of the section with this id
+abbrev pub sectionKind : ℕ → Option Kind
+sectionKind i = firstKind (λ k. not (isSubsection k) && eqb (sectionId k) i) kinds
+
+-- the kind of the subsection with this tag in a section of kind o
+abbrev pub subsectionKind : Kind → ℕ → Option Kind
+subsectionKind o g = firstKind (λ k. isSubsection k && (eqb (sectionId k) (sectionId o) && eqb (tag k) g)) kinds
+
+-- the length of how a section or a subsection begins
+abbrev pub frameLength : Kind → ℕ
+frameLength k = elim (isSubsection k) [ false ↦ 4 | true ↦ 5 ]
+
 -- the id byte at the front of a token or a section
 abbrev pub idOf : List ℕ → ℕ
 idOf r = number (bytesAt r 0 1)
@@ -54,7 +71,7 @@ idOf r = number (bytesAt r 0 1)
 abbrev pub stated : List ℕ → ℕ
 stated r = number (bytesAt r 2 2)
 
--- the slots of a kind's fields behind its frame, in bytes that begin with the part
+-- the slots of a kind's fields after its frame, in bytes that begin with the part
 abbrev pub bodySlots : Kind → List ℕ → List Slot
 bodySlots k r = slots [] (body k) r (frameLength k)
 
@@ -111,7 +128,7 @@ subsection x o before at n r =
       | some k ↦ tested at (subsectionChecks x k (has k before) n r) (found (partIn k r))
     ])
 
--- the subsections that tile the next n bytes, behind the earlier ones; d turns are enough where d is more than n
+-- the subsections that tile the next n bytes, after the earlier ones; d turns are enough where d is more than n
 unfoldable pub subsections : ℕ → Bool → Kind → List Part → ℕ → ℕ → List ℕ → Outcome (List Part)
 subsections zero x o before at n r = refused (fault 0 at 0)
 subsections (suc d) x o before at zero r = found before
@@ -152,8 +169,8 @@ placeOf k at [] = at
 placeOf k at (p ∷ ps) = elim (sameKind k (p .kind)) [ true ↦ at | false ↦ placeOf k (at + size p) ps ]
 
 -- the end of a section whose subsections begin at place `first`: 0005 against 0003, then what is required
-unfoldable pub closed : Bool → ℕ → ℕ → Section → Outcome Section
-closed full at first s =
+unfoldable pub afterSubsections : Bool → ℕ → ℕ → Section → Outcome Section
+afterSubsections full at first s =
     need (maskCovers (s .subs)) (fault 18 (placeOf tokenParameters first (s .subs)) 5)
     (need (not full || hasRequired s) (fault 20 at 0) (found s))
 
@@ -162,7 +179,7 @@ unfoldable pub sectionRest : Bool → Bool → Kind → ℕ → List ℕ → Out
 sectionRest full x k at r =
     let n = madeLength k r in
     andThen (subsections (suc (stated r)) x k [] (at + n) (stated r - n) (drop n r))
-    (λ ps. closed full at (at + n) (record { head = partIn k r; subs = ps }))
+    (λ ps. afterSubsections full at (at + n) (record { head = partIn k r; subs = ps }))
 
 -- the section at the front of r; `before` are the token's earlier sections
 unfoldable pub section : Bool → Bool → List Section → ℕ → List ℕ → Outcome Section
@@ -173,7 +190,7 @@ section full x before at r =
       | some k ↦ tested at (sectionChecks x k (kindBefore k before) (ruleBefore (partIn k r) before) r) (sectionRest full x k at r)
     ])
 
--- the sections that tile r, behind the earlier ones; d turns are enough where d is more than its length.
+-- the sections that tile r, after the earlier ones; d turns are enough where d is more than its length.
 -- The missing section 14 comes last
 unfoldable pub sections : ℕ → Bool → Bool → List Section → ℕ → List ℕ → Outcome (List Section)
 sections zero full x before at r = refused (fault 0 at 0)
@@ -215,10 +232,10 @@ abbrev pub rowCount : List Section → ℕ
 rowCount ss = length (partsOf ss)
 
 -- an outcome as number and second number: the place of the refusal, or what is counted of what was found
-unfoldable pub told : {A : Type 0} → (A → ℕ) → Outcome A → Answer
-told second (refused f) = Refused (f .number) (place f)
-told second (found a) = Accepted (second a)
+unfoldable pub asAnswer : {A : Type 0} → (A → ℕ) → Outcome A → Answer
+asAnswer second (refused f) = Refused (f .number) (place f)
+asAnswer second (found a) = Accepted (second a)
 
 -- the answer of reading a token
 unfoldable pub answer : List ℕ → Answer
-answer bs = told rowCount (reading true bs)
+answer bs = asAnswer rowCount (reading true bs)

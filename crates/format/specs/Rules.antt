@@ -20,9 +20,6 @@ pub record Check : Type 0 where
 abbrev pub check : ℕ → ℕ → Bool → Check
 check f n b = record { field = f; refusal = n; holds = b }
 
-abbrev pub external : ℕ → Bool
-external i = eqb i 0x1E
-
 -- ---- the conditions on single fields, in 01's order
 
 -- x is 1 to 512

@@ -6,7 +6,7 @@ use lib.Dec.{leb}
 use lib.ListN.{length, drop}
 use Rattle.format.specs.Parts.{Part, isSubsection, kindNumber, size, span}
 use Rattle.format.specs.Rules.{Section}
-use Rattle.format.specs.Reading.{Outcome, refused, found, fault, need, andThen, reading, partsOf, rowCount, told}
+use Rattle.format.specs.Reading.{Outcome, refused, found, fault, need, andThen, reading, partsOf, rowCount, asAnswer}
 use Rattle.format.specs.declared.Answer.{Answer}
 use Rattle.format.specs.declared.Row.{Row}
 
@@ -15,7 +15,7 @@ pub record Placed : Type 0 where
   pub row : Row
   pub part : Part
 
--- the rows of parts that begin at this place behind n rows; o is the row of the last section
+-- the rows of parts that begin at this place after n rows; o is the row of the last section
 abbrev pub placed : ℕ → ℕ → ℕ → List Part → List Placed
 placed at n o [] = []
 placed at n o (p ∷ ps) =
@@ -54,9 +54,9 @@ tableReading bs t =
 
 -- its answer
 unfoldable pub tableAnswer : List ℕ → List ℕ → Answer
-tableAnswer bs t = told rowCount (tableReading bs t)
+tableAnswer bs t = asAnswer rowCount (tableReading bs t)
 
--- what the lent table then holds: the rows and behind them what it held, or on refusal what it held
+-- what the lent table then holds: the rows and after them what it held, or on refusal what it held
 unfoldable pub tableAfter : List ℕ → List ℕ → List ℕ
 tableAfter bs t =
     elim (tableReading bs t) [

@@ -6,7 +6,7 @@ use Prim.Native.Nat.{ℕ, _+_}
 use lib.Dec.{eqb}
 use lib.ListN.{length, drop, getElem?}
 use Rattle.format.specs.Bytes.{bytesAt}
-use Rattle.format.specs.Layout.{slots}
+use Rattle.format.specs.Slots.{slots}
 use Rattle.format.specs.Parts.{Part, layout}
 use Rattle.format.specs.Reading.{refused, found, reading, partsOf, place}
 use Rattle.format.specs.Table.{placed, rows}
@@ -78,7 +78,7 @@ stepAt bs at =
       | found ss ↦ stepIn (length bs) (rows (partsOf ss)) at
     ]
 
--- the place that the reader of held bytes goes to behind a step: the next row's, and at the end or a refusal its own
+-- the place that the reader of held bytes goes to after a step: the next row's, and at the end or a refusal its own
 abbrev pub placeAfter : ℕ → Step → ℕ
 placeAfter at (Record r next) = next
 placeAfter at End = at

@@ -6,18 +6,16 @@ use lib.Dec.{leb}
 use lib.ListN.{length, take, drop}
 use Rattle.format.specs.Bytes.{bigEndian}
 use Rattle.format.specs.Layout.{Fields, fits}
-use Rattle.format.specs.Parts.{Kind}
-use Rattle.format.specs.Parts.{layout, Part, size, written, joins}
-use Rattle.format.specs.Legal.{knownId}
+use Rattle.format.specs.Parts.{Kind, layout, Part, size, written, joins, knownId}
 use Rattle.format.specs.Rules.{Section}
-use Rattle.format.specs.Reading.{Outcome, refused, found, fault, need, andThen, idOf, stated, reading, partsOf, told}
+use Rattle.format.specs.Reading.{Outcome, refused, found, fault, need, andThen, idOf, stated, reading, partsOf, asAnswer}
 use Rattle.format.specs.declared.Answer.{Answer}
 
 -- the answer of a call that writes: the refusal, or the draft's length
 abbrev pub writeAnswer : Outcome (List ℕ) → Answer
-writeAnswer o = told length o
+writeAnswer o = asAnswer length o
 
--- what the lent draft then holds: the new bytes and behind them what it held, or what it held
+-- what the lent draft then holds: the new bytes and after them what it held, or what it held
 abbrev pub draftAfter : Outcome (List ℕ) → List ℕ → List ℕ
 draftAfter (refused f) d = d
 draftAfter (found bs) d = bs ++ drop (length bs) d
@@ -43,7 +41,7 @@ addition k fs d =
 
 -- finishing changes no byte: the draft's own fault, else the reading's 20, else the draft's length
 unfoldable pub finish : List ℕ → Answer
-finish d = told (λ ss. stated d) (andThen (reading false d) (λ ss. reading true (take (stated d) d)))
+finish d = asAnswer (λ ss. stated d) (andThen (reading false d) (λ ss. reading true (take (stated d) d)))
 
 -- ---- the values of each addition as the fields of its kind
 

@@ -28,7 +28,7 @@ no-row (Record r n) (inr e) = let z : _≡_ {A = ℕ} 0 2 = e in absurd (omega a
 no-row End k = (refl, (refl, (refl, (refl, refl))))
 no-row (Stopped n p) k = (refl, (refl, (refl, (refl, refl))))
 
--- Behind the last row no row has the number,
+-- After the last row no row has the number,
 pub row-missing : (s : Step) → tagOf the-type s ≡ 1 → 22 ≡ rowAnswer s
 unfolding rowAnswer
 row-missing (Record r n) e = let z : _≡_ {A = ℕ} 0 1 = e in absurd (omega arith)

@@ -1,4 +1,4 @@
--- The digits of a layout: the length of each field, and the counts behind it.
+-- The digits of a layout: the length of each field, and the counts after it.
 use mathlib.Core.Path.{_≡_, refl, sym, ap, _∙_, subst}
 use mathlib.Core.Bool.{Bool, true, false, _&&_}
 use mathlib.Core.List.{List, [], _∷_, _++_}
@@ -9,10 +9,10 @@ use lib.ListN.{length, getD, drop, take, length-append, List·getD-append}
 use lib.Seq.{getD-append-seam, drop-drop}
 use borrow.Author.Tests.{eqb-true, ne-eqb, ltb-true, ltb-false}
 use Rattle.format.specs.Bytes.{All, number, bytesAt}
-use Rattle.format.specs.Layout.{Item, code, zeros, own, count, fixed, counted, slots}
+use Rattle.format.specs.Layout.{Item, code, zeros, own, count, fixed, counted}
+use Rattle.format.specs.Slots.{slots}
 use Rattle.format.specs.Parts.{publicKey, rule, transportVariant, transportRule, exportParameters, sourceRule, tokenParameters}
-use Rattle.format.specs.Parts.{name, information, protection, dates, applicationData}
-use Rattle.format.specs.Parts.{Kind, kindNumber, layout}
+use Rattle.format.specs.Parts.{name, information, protection, dates, applicationData, Kind, kindNumber, layout}
 use Rattle.format.proofs.Numbers.{number-one}
 use Rattle.format.proofs.Finding.{and-split, number-told}
 use Rattle.format.proofs.Grouping.{is-false}
@@ -66,7 +66,7 @@ no-kind n v a b c d e f g h i j k l applicationData q = absurd (l q)
 
 -- ---- one field
 
--- The length of a field, behind the counts ns.
+-- The length of a field, after the counts ns.
 abbrev pub itemWidth : List ℕ → Item → ℕ
 itemWidth ns (code w v) = w
 itemWidth ns (zeros n q) = n
@@ -75,7 +75,7 @@ itemWidth ns (count w k) = w
 itemWidth ns (fixed n) = n
 itemWidth ns (counted j) = getD ns j 0
 
--- The counts behind a field that lies at o.
+-- The counts after a field that lies at o.
 abbrev pub countsAfter : List ℕ → Item → List ℕ → ℕ → List ℕ
 countsAfter ns (code w v) bs o = ns
 countsAfter ns (zeros n q) bs o = ns
@@ -84,7 +84,7 @@ countsAfter ns (count w k) bs o = ns ++ (number (bytesAt bs o w) ∷ [])
 countsAfter ns (fixed n) bs o = ns
 countsAfter ns (counted j) bs o = ns
 
--- The first slot and those behind it.
+-- The first slot and those after it.
 pub slots-first : (i : Item) (l : List Item) (ns bs : List ℕ) (o : ℕ)
     → slots ns (i ∷ l) bs o
     ≡ record { item = i; offset = o; width = itemWidth ns i } ∷ slots (countsAfter ns i bs o) l bs (o + itemWidth ns i)
@@ -168,7 +168,7 @@ width-told (counted j) ns d e =
     let t = counted-told (length ns) j d e in
     ap (λ (x : ℕ). widthOf x (getD ns 0 0) (getD ns 1 0)) (t .0) ∙ width-counted j ns (t .1)
 
--- ---- the counts behind a field
+-- ---- the counts after a field
 
 -- The field of a digit that is a count's is as long as the digit says.
 pub count-width : (i : Item) (ns : List ℕ) (d j w : ℕ) → shows (length ns) i d ≡ true → j < 2 → w < 2 → d ≡ 10 + 2 * j + w
@@ -213,7 +213,7 @@ count-stated ns s at o d j w {r} e n k h c = go (ltb j (length ns)) (ltb (length
         ∙ sym (getD-append-seam ns (number (bytesAt (drop at s) o (suc w))) [] 0)
         ∙ ap (λ (x : ℕ). getD (ns ++ (number (bytesAt (drop at s) o (suc w)) ∷ [])) x 0) z
 
--- Count number j behind the field at o, where its digits are 10 + 2 * j and the next.
+-- Count number j after the field at o, where its digits are 10 + 2 * j and the next.
 pub count-known : (i : Item) (ns s : List ℕ) (at o d j : ℕ) {r : ℕ} → shows (length ns) i d ≡ true → j < 2
     → CountBehind s (at + o) d (10 + 2 * j) (getD ns j 0) r → r ≡ getD (countsAfter ns i (drop at s) o) j 0
 count-known (code w v) ns s at o d j e h c = let t = plain-told w d e in c .1 (omega arith)

@@ -7,7 +7,8 @@ use Prim.Native.Nat.{ℕ, zero, suc, _+_, _*_, _/_, _%_, _-_, _<_, _≤_}
 use native.Mathlib.Omega.{arith}
 use lib.ListN.{length, getD, drop, getElem?}
 use borrow.Author.Tests.{eqb-true}
-use Rattle.format.specs.Layout.{Item, Slot, slots, endOf}
+use Rattle.format.specs.Layout.{Item}
+use Rattle.format.specs.Slots.{Slot, slots, endOf}
 use Rattle.format.specs.Parts.{Kind, kindNumber, isSubsection, sectionId, tag, body, layout, Part}
 use Rattle.format.specs.Views.{slotOf}
 use Rattle.format.specs.declared.Where.{Where}
@@ -22,7 +23,7 @@ use Rattle.layouts.proofs.Laws.{itemWidth, countsAfter, slots-first, co
 abbrev ofSlot : ℕ → Option Slot → Where
 ofSlot at o = elim o as (λ y. Where) [ none ↦ Missing 22 0 | some s ↦ At (at + s .offset) (s .width) ]
 
--- An element behind the first one.
+-- An element after the first one.
 pub next-element : {A : Type 0} (x : A) (xs : List A) (j : ℕ) → (j ≡ 0 → ⊥) → {o : Option A} → getElem? (x ∷ xs) j ≡ o
     → getElem? xs (j - 1) ≡ o
 next-element x xs zero h e = absurd (h refl)
@@ -32,7 +33,7 @@ next-element x xs (suc j) h e = ap (getElem? xs) (let z : suc j - 1 ≡ j = omeg
 same-kind : {s : List ℕ} {at n : ℕ} (w : Standing s at n) (p : Part) → n ≡ kindNumber (p .kind) → (field : ℕ)
     → getElem? (slots [] (layout (p .kind)) (drop at s) 0) field ≡ getElem? (slots [] (layout (w .kind)) (drop at s) 0) field
 same-kind {s} {at} w p q field =
-    ap (λ (k : Kind). getElem? (slots [] (layout k) (drop at s) 0) field) (number-told (p .kind) (w .kind) (sym q ∙ w .told))
+    ap (λ (k : Kind). getElem? (slots [] (layout k) (drop at s) 0) field) (number-told (p .kind) (w .kind) (sym q ∙ w .asAnswer))
 
 -- What is left begins with a field.
 pub record Field (s : List ℕ) (at kind field n o first second j : ℕ) : Type 0 where
@@ -85,7 +86,7 @@ module _ {s : List ℕ} {at kind field n o first second j : ℕ} where
       ∙ ap₂ (λ (l : List Slot) (i : ℕ). getElem? l i) (slots-first (w .item) (w .behind) (y .counts) r (y .offset)) h in
       ap₂ At (y .place) (e ∙ w .width) ∙ sym (ap (ofSlot at) f)
 
-  -- The fields behind this one.
+  -- The fields after this one.
   pub goes-on : (w : Field s at kind field n o first second j) → (j ≡ 0 → ⊥) → {v f g : ℕ} → v ≡ widthOf (n % 16) first second
       → CountBehind s o (n % 16) 10 first f → CountBehind s o (n % 16) 12 second g
       → Slotting s at kind field (n / 16) (o + v) f g (j - 1)
@@ -121,7 +122,7 @@ module _ {s : List ℕ} {at kind field n o first second j : ℕ} where
         };
       }
 
-  -- Behind the last field there is none.
+  -- After the last field there is none.
   pub lies-nowhere : Slotting s at kind field n o first second j → n ≡ 0 → InSlot s at kind field (Missing 22 0)
   lies-nowhere w h p q = go (w .items) (w .lying)
     where
@@ -149,7 +150,7 @@ starts {s} {at} {kind} {field} {n} w d =
         counts = [];
         offset = 0;
         place = omega arith;
-        digits = d k (w .told);
+        digits = d k (w .asAnswer);
         one = refl;
         two = refl;
         inside = omega (arith, w .inside, e);

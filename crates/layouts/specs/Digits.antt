@@ -6,7 +6,8 @@ use Prim.Native.Nat.{ℕ, suc, _+_, _*_, _/_, _%_, _<_, _≤_}
 use lib.Dec.{eqb, ltb}
 use lib.ListN.{length, getD, drop, getElem?}
 use Rattle.format.specs.Bytes.{number, bytesAt}
-use Rattle.format.specs.Layout.{Item, code, zeros, own, count, fixed, counted, slots, endOf}
+use Rattle.format.specs.Layout.{Item, code, zeros, own, count, fixed, counted}
+use Rattle.format.specs.Slots.{slots, endOf}
 use Rattle.format.specs.Parts.{Kind, kindNumber, layout, Part}
 use Rattle.format.specs.Reading.{madeLength}
 use Rattle.format.specs.Views.{slotOf}
@@ -32,7 +33,7 @@ widthOf d first second =
 abbrev pub showsPlain : ℕ → ℕ → Bool
 showsPlain w d = (ltb 0 d && ltb d 10) && eqb (plainWidth d) w
 
--- the digit of a field, behind c counts
+-- the digit of a field, after c counts
 abbrev pub shows : ℕ → Item → ℕ → Bool
 shows c (code w v) d = showsPlain w d
 shows c (zeros n q) d = showsPlain n d
@@ -41,7 +42,7 @@ shows c (count w k) d = (eqb d (9 + 2 * c + w) && ltb c 2) && (ltb 0 w && ltb w 
 shows c (fixed n) d = showsPlain n d
 shows c (counted j) d = eqb d (14 + j) && ltb j 2
 
--- how many counts stand behind the field, c of them before it
+-- how many counts stand after the field, c of them before it
 abbrev pub countsBehind : ℕ → Item → ℕ
 countsBehind c (code w v) = c
 countsBehind c (zeros n q) = c
@@ -50,7 +51,7 @@ countsBehind c (count w k) = suc c
 countsBehind c (fixed n) = c
 countsBehind c (counted j) = c
 
--- the number shows the fields, behind c counts
+-- the number shows the fields, after c counts
 abbrev pub shown : ℕ → List Item → ℕ → Bool
 shown c [] n = eqb n 0
 shown c (i ∷ l) n = shows c i (n % 16) && shown (countsBehind c i) l (n / 16)
@@ -65,7 +66,7 @@ ShowsKind n v = (k : Kind) → n ≡ kindNumber k → shown 0 (layout k) v ≡ t
 abbrev pub CountRoom : List ℕ → ℕ → ℕ → ℕ → Type 0
 CountRoom s o d one = (one < 16) × ((w : ℕ) → d ≡ one + w → w < 2 → o + suc w ≤ length s)
 
--- the count behind the field
+-- the count after the field
 abbrev pub CountBehind : List ℕ → ℕ → ℕ → ℕ → ℕ → ℕ → Type 0
 CountBehind s o d one before r =
     ((w : ℕ) → d ≡ one + w → w < 2 → r ≡ number (bytesAt s o (suc w)))
@@ -77,7 +78,7 @@ CountBehind s o d one before r =
 -- a part of this kind stands at this place of a short token
 pub record Standing (s : List ℕ) (at n : ℕ) : Type 0 where
   pub kind : Kind
-  pub told : n ≡ kindNumber kind
+  pub asAnswer : n ≡ kindNumber kind
   pub short : length s ≤ 3500
   pub inside : at + madeLength kind (drop at s) ≤ length s
 
@@ -85,7 +86,7 @@ pub record Standing (s : List ℕ) (at n : ℕ) : Type 0 where
 abbrev pub InSlot : List ℕ → ℕ → ℕ → ℕ → Where → Type 0
 InSlot s at n field r = (p : Part) → n ≡ kindNumber (p .kind) → r ≡ slotOf s at p field
 
--- The items that are left lie from place o on and are shown by n, behind counts of which `first` and `second` are the
+-- The items that are left lie from place o on and are shown by n, after counts of which `first` and `second` are the
 -- first two; the field asked for is number j of them.
 pub record Lying (s : List ℕ) (at kind field n o first second j : ℕ) (items : List Item) : Type 0 where
   pub standing : Standing s at kind

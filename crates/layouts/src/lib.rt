@@ -46,7 +46,7 @@ fn width(digit: u64, first: usize, second: usize) -> usize
     }
 }
 
-// A count behind the field at o: where the digit is the count's in one byte, or the next one, which is its in two, what
+// A count after the field at o: where the digit is the count's in one byte, or the next one, which is its in two, what
 // the field states; else what the count was before.
 fn count(s: &[u8], o: usize, digit: u64, one: u64, before: usize) -> usize
     requires { ⌜ CountRoom (now s) o digit one ⌝ }

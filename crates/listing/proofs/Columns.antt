@@ -52,7 +52,7 @@ id-solid i =
 
 -- ---- cut at the spaces
 
--- two solid texts, each with a space or a newline behind it
+-- two solid texts, each with a space or a newline after it
 cut : (xs ys us vs : List ℕ) (a b : ℕ) → Solid xs → Solid ys → a ≤ 32 → b ≤ 32 → xs ++ (a ∷ us) ≡ ys ++ (b ∷ vs)
     → (xs ≡ ys) × (a ≡ b) × (us ≡ vs)
 cut [] [] us vs a b p q h k e = (refl, head-eq-of-cons-eq e, tail-eq-of-cons-eq e)

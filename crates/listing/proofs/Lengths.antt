@@ -14,7 +14,7 @@ use Rattle.texts.specs.Numerals.{numeral}
 use Rattle.listing.proofs.Lines.{columns, acceptedColumns, refusedColumns, rowColumns, accepted-is, refused-is, row-is}
 use Rattle.texts.proofs.Numerals.{numeral-ten, hexadecimal-is}
 
--- the bytes of columns, each with the one behind it
+-- the bytes of columns, each with the one after it
 abbrev total : List (List ℕ) → ℕ
 total [] = 0
 total (x ∷ xs) = (length x + 1) + total xs

@@ -1,4 +1,4 @@
--- The lines as columns with a space between them, and as such stored one behind the other. Assumes nothing.
+-- The lines as columns with a space between them, and as such stored one after the other. Assumes nothing.
 use mathlib.Core.Path.{_≡_, ap, _∙_}
 use mathlib.Core.List.{List, [], _∷_, _++_, append-assoc}
 use Prim.Native.Nat.{ℕ, _/_, _%_}
@@ -10,7 +10,7 @@ use Rattle.storing.specs.Storing.{Stored}
 use Rattle.texts.proofs.Numerals.{decimal-is, hexadecimal-is}
 use Rattle.storing.proofs.Stores.{stored-as, stored-then}
 
--- columns with a space between them and a newline behind the last
+-- columns with a space between them and a newline after the last
 unfoldable pub columns : List (List ℕ) → List ℕ
 columns [] = []
 columns (x ∷ []) = x ++ (10 ∷ [])
@@ -90,15 +90,15 @@ row-is n r =
     ∙ same-columns _ _ _ _ (tagText (r .kind % 65536)) _ _ _ _ _ _ (decimal-is n) (hexadecimal-is 2 (r .kind / 65536))
     (decimal-is (r .offset)) (decimal-is (r .length)) (decimal-is (r .owner))
 
--- ---- stored one behind the other
+-- ---- stored one after the other
 
--- the last column, with a newline behind it
+-- the last column, with a newline after it
 pub last-stored : {old new : List ℕ} {at next : ℕ} (x : List ℕ) → Stored old at (x ++ (10 ∷ [])) new next
     → Stored old at (columns (x ∷ [])) new next
 unfolding columns
 last-stored x s = s
 
--- a column with a space behind it, and those behind that
+-- a column with a space after it, and those after that
 pub column-stored : {old new last : List ℕ} {at next end : ℕ} (x y : List ℕ) (ys : List (List ℕ))
     → Stored old at (x ++ (32 ∷ [])) new next → Stored new next (columns (y ∷ ys)) last end
     → Stored old at (columns (x ∷ y ∷ ys)) last end

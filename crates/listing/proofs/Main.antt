@@ -38,7 +38,7 @@ pub refused-line-fits : (i n number place : ℕ) → number < 2 ^ 32 → place <
     → length (firstLine i n (Refused number place)) ≤ 96
 refused-line-fits = refused-length
 
--- Where the buffer has room for the line, the call answers its length; the line stands at the start, and the bytes behind
+-- Where the buffer has room for the line, the call answers its length; the line stands at the start, and the bytes after
 -- it are those that were there.
 pub line-given : (line old : List ℕ) → length line ≤ length old
     → (lineAnswer line old ≡ Accepted (length line)) × (lineIn line old ≡ line ++ drop (length line) old)

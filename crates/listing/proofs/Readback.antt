@@ -19,7 +19,7 @@ use Rattle.texts.proofs.Numerals.{count-holds, numeral-last}
 digitOf : ℕ → ℕ
 digitOf c = elim (ltb c 0x40) [ true ↦ c - 0x30 | false ↦ c - 0x37 ]
 
--- the number that characters stand for in base b, behind those that stand for a
+-- the number that characters stand for in base b, after those that stand for a
 readFrom : ℕ → ℕ → List ℕ → ℕ
 readFrom b a [] = a
 readFrom b a (c ∷ cs) = readFrom b (a * b + digitOf c) cs
@@ -39,7 +39,7 @@ digit-back d h =
     ∙ omega arith)
     (below-or-not d 10)
 
--- one text behind another
+-- one text after another
 from-append : (b a : ℕ) (xs ys : List ℕ) → readFrom b a (xs ++ ys) ≡ readFrom b (readFrom b a xs) ys
 unfolding readFrom
 from-append b a [] ys = refl

@@ -11,6 +11,6 @@ use Rattle.format.specs.declared.Answer.the-variants.{Accepted, Refused}
 unfoldable pub lineAnswer : List ℕ → List ℕ → Answer
 lineAnswer line old = elim (leb (length line) (length old)) [ true ↦ Accepted (length line) | false ↦ Refused 23 0 ]
 
--- the line and, behind it, the bytes that were there; all of the old bytes where the buffer is too small
+-- the line and, after it, the bytes that were there; all of the old bytes where the buffer is too small
 unfoldable pub lineIn : List ℕ → List ℕ → List ℕ
 lineIn line old = elim (leb (length line) (length old)) [ true ↦ line ++ drop (length line) old | false ↦ old ]

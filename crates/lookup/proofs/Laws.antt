@@ -8,7 +8,7 @@ use lib.ListN.{length, getD, take, drop}
 use denote.Enum.Declared.{tagOf}
 use Rattle.format.specs.Bytes.{bytesAt}
 use Rattle.format.specs.Rules.{Section}
-use Rattle.format.specs.Reading.{Fault, Outcome, refused, found, reading, rowCount, told, answer}
+use Rattle.format.specs.Reading.{Fault, Outcome, refused, found, reading, rowCount, asAnswer, answer}
 use Rattle.format.specs.Views.{fieldAt, bytesThere, stepAt}
 use Rattle.format.specs.declared.Answer.the-variants.{Accepted, Refused}
 use Rattle.format.specs.declared.Where.{Where}
@@ -27,10 +27,10 @@ whole s e small = let r = accepted-read s e in record { sections = r .sections; 
 
 -- A refusal comes from the reading.
 refusal : {m p : ℕ} (s : List ℕ) → Refused m p ≡ answer s → (f : Fault) × ((reading true s ≡ refused f) × ((m ≡ f .number) × (p ≡ f .part)))
-unfolding answer told
+unfolding answer asAnswer
 refusal {m} {p} s e = go (reading true s) refl e
   where
-    go : (o : Outcome (List Section)) → reading true s ≡ o → Refused m p ≡ told rowCount o
+    go : (o : Outcome (List Section)) → reading true s ≡ o → Refused m p ≡ asAnswer rowCount o
         → (f : Fault) × ((reading true s ≡ refused f) × ((m ≡ f .number) × (p ≡ f .part)))
     go (refused f) q w = let a : m ≡ f .number = cc in let b : p ≡ f .part = cc in (f, (q, (a, b)))
     go (found ss) q w = absurd (let y : _≡_ {A = ℕ} 0 1 = cc in omega arith)

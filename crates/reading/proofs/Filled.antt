@@ -11,7 +11,7 @@ use borrow.Author.Tests.{le-leb, lt-leb}
 use Rattle.format.specs.Bytes.{Bytes}
 use Rattle.format.specs.Parts.{Part}
 use Rattle.format.specs.Rules.{Section}
-use Rattle.format.specs.Reading.{Outcome, refused, found, fault, need, andThen, told, reading, partsOf, rowCount, answer}
+use Rattle.format.specs.Reading.{Outcome, refused, found, fault, need, andThen, asAnswer, reading, partsOf, rowCount, answer}
 use Rattle.format.specs.Table.{placed, rows, tableOf, columns, tableReading, tableAnswer, tableAfter}
 use Rattle.format.specs.declared.Answer.the-variants.{Accepted, Refused}
 use Rattle.format.specs.declared.Row.{Row}
@@ -29,14 +29,14 @@ pub record ReadWhole (s : List ℕ) (n : ℕ) : Type 0 where
   pub rows : n ≡ rowCount sections
 
 pub accepted-read : {n : ℕ} (s : List ℕ) → Accepted n ≡ answer s → ReadWhole s n
-unfolding answer told
+unfolding answer asAnswer
 accepted-read {n} s e = go (reading true s) refl e
   where
-    go : (o : Outcome (List Section)) → reading true s ≡ o → Accepted n ≡ told rowCount o → ReadWhole s n
+    go : (o : Outcome (List Section)) → reading true s ≡ o → Accepted n ≡ asAnswer rowCount o → ReadWhole s n
     go (refused f) q w = absurd (let y : _≡_ {A = ℕ} 0 1 = cc in omega arith)
     go (found ss) q w = let m : n ≡ rowCount ss = cc in record { sections = ss; read = q; rows = m }
 
--- the table behind an outcome
+-- the table after an outcome
 abbrev after : List ℕ → Outcome (List Section) → List ℕ
 after t o = elim o as (λ y. List ℕ) [ refused f ↦ t | found ss ↦ tableOf (rows (partsOf ss)) ++ drop (columns * rowCount ss) t ]
 
@@ -44,11 +44,11 @@ after t o = elim o as (λ y. List ℕ) [ refused f ↦ t | found ss ↦ tableOf 
 
 -- The reading's own refusal.
 pub refused-table : {m p : ℕ} (s t : List ℕ) → Refused m p ≡ answer s → (Refused m p ≡ tableAnswer s t) × (t ≡ tableAfter s t)
-unfolding answer told tableAnswer tableAfter tableReading andThen
+unfolding answer asAnswer tableAnswer tableAfter tableReading andThen
 refused-table {m} {p} s t e = go (reading true s) e
   where
-    go : (o : Outcome (List Section)) → Refused m p ≡ told rowCount o
-        → (Refused m p ≡ told rowCount (andThen o (λ ss. need (leb (columns * length (partsOf ss)) (length t)) (fault 23 (rowCount ss) 0) (found ss))))
+    go : (o : Outcome (List Section)) → Refused m p ≡ asAnswer rowCount o
+        → (Refused m p ≡ asAnswer rowCount (andThen o (λ ss. need (leb (columns * length (partsOf ss)) (length t)) (fault 23 (rowCount ss) 0) (found ss))))
         × (t ≡ elim (andThen o (λ ss. need (leb (columns * length (partsOf ss)) (length t)) (fault 23 (rowCount ss) 0) (found ss))) as (λ y. List ℕ) [
           | refused f ↦ t
           | found ss ↦ tableOf (rows (partsOf ss)) ++ drop (columns * rowCount ss) t
@@ -58,11 +58,11 @@ refused-table {m} {p} s t e = go (reading true s) e
 
 -- The table is too short.
 pub short-table : {n : ℕ} (s t : List ℕ) → ReadWhole s n → length t < 4 * n → (Refused 23 n ≡ tableAnswer s t) × (t ≡ tableAfter s t)
-unfolding tableAnswer tableAfter tableReading andThen need told
+unfolding tableAnswer tableAfter tableReading andThen need asAnswer
 short-table {n} s t w h =
     let r = w .rows in
     let b : leb (columns * length (partsOf (w .sections))) (length t) ≡ false = lt-leb (columns * length (partsOf (w .sections))) (length t) (omega arith) in
-    (ap (λ (m : ℕ). Refused 23 m) r ∙ sym (ap (told rowCount) (short (reading true s) (w .read) b)), sym (ap (after t) (short (reading true s) (w .read) b)))
+    (ap (λ (m : ℕ). Refused 23 m) r ∙ sym (ap (asAnswer rowCount) (short (reading true s) (w .read) b)), sym (ap (after t) (short (reading true s) (w .read) b)))
   where
     short : (o : Outcome (List Section)) → o ≡ found (w .sections) → leb (columns * length (partsOf (w .sections))) (length t) ≡ false
         → andThen o (λ ss. need (leb (columns * length (partsOf ss)) (length t)) (fault 23 (rowCount ss) 0) (found ss)) ≡ refused (fault 23 (rowCount (w .sections)) 0)
@@ -83,7 +83,7 @@ placed-long at n o (p ∷ ps) = ap suc (placed-long _ _ _ ps)
 -- The table is filled.
 pub filled-table : {n : ℕ} {u : List ℕ} (s t : List ℕ) → ReadWhole s n → 4 * n ≤ length t → filled s t u
     → (Accepted n ≡ tableAnswer s t) × (u ≡ tableAfter s t)
-unfolding tableAnswer tableAfter tableReading andThen need told
+unfolding tableAnswer tableAfter tableReading andThen need asAnswer
 filled-table {n} {u} s t w h f =
     let r = w .rows in
     let ss : List Section = w .sections in
@@ -94,7 +94,7 @@ filled-table {n} {u} s t w h f =
     let z : 0 + length (tableOf (rows (partsOf ss))) ≡ columns * rowCount ss = omega arith in
     let g : u ≡ tableOf (rows (partsOf ss)) ++ drop (columns * rowCount ss) t =
     f ss (w .read) ∙ sets-eq (tableOf (rows (partsOf ss))) t 0 (omega arith) ∙ ap (λ (y : ℕ). tableOf (rows (partsOf ss)) ++ drop y t) z in
-    (ap Accepted r ∙ sym (ap (told rowCount) (whole (reading true s) (w .read) b)), g ∙ sym (ap (after t) (whole (reading true s) (w .read) b)))
+    (ap Accepted r ∙ sym (ap (asAnswer rowCount) (whole (reading true s) (w .read) b)), g ∙ sym (ap (after t) (whole (reading true s) (w .read) b)))
   where
     whole : (o : Outcome (List Section)) → o ≡ found (w .sections) → leb (columns * length (partsOf (w .sections))) (length t) ≡ true
         → andThen o (λ ss. need (leb (columns * length (partsOf ss)) (length t)) (fault 23 (rowCount ss) 0) (found ss)) ≡ found (w .sections)

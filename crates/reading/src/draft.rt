@@ -1,7 +1,7 @@
 // The reading of a lent draft: only its first bytes, as many as its header states, and under all rules but 20.
 ghost use mathlib.Core.Path.{_≡_};
 ghost use mathlib.Core.Bool.{false};
-ghost use Rattle.format.specs.Reading.{reading, rowCount, told};
+ghost use Rattle.format.specs.Reading.{reading, rowCount, asAnswer};
 use contents::header::header;
 use contents::whole::sections_of;
 use fields::two;
@@ -9,7 +9,7 @@ use format::Answer;
 
 // The answer of reading a lent draft: 0 and the rows of its parts, or the first fault and its place.
 pub fn read_draft(draft: &[u8]) -> Answer
-    ensures { λ r. ⌜ r ≡ told rowCount (reading false (now (draft .entry))) ⌝ }
+    ensures { λ r. ⌜ r ≡ asAnswer rowCount (reading false (now (draft .entry))) ⌝ }
 {
     let f = header(draft, false);
     if f != 0 {

@@ -21,7 +21,7 @@ pub fn read(token: &[u8]) -> Answer
 }
 
 // The same answer, and 23 with the rows needed where the table is too short for them. The rows of an accepted token are
-// in the table from its start on, four numbers each; what is behind them, and on refusal all of it, is as it was.
+// in the table from its start on, four numbers each; what is after them, and on refusal all of it, is as it was.
 pub fn read_table(token: &[u8], table: &mut [u32]) -> Answer
     ensures answer { λ r. ⌜ r ≡ tableAnswer (now (token .entry)) (now (table .entry)) ⌝ }
     ensures table { λ _. ⌜ now (table .exit) ≡ tableAfter (now (token .entry)) (now (table .entry)) ⌝ }

@@ -115,7 +115,7 @@ module _ (l : List ℕ) (k : ℕ) where
       let inside : i < length l = omega (arith, s .bound, r .kept .sized) in
       let here : getD (set l i k) i 0 ≡ k = getD-set-same l i k 0 inside in
       record {
-        told = sym (missing h (r .kept) s z);
+        asAnswer = sym (missing h (r .kept) s z);
         kept = record {
           sized = length-set l i k ∙ r .kept .sized;
           placed = λ x nz. ⊎-elim
@@ -153,7 +153,7 @@ module _ (l : List ℕ) (k : ℕ) where
   seen {i} r s z =
       let inside : i < length l = omega (arith, s .bound, r .kept .sized) in
       record {
-        told = sym (found k l i inside z);
+        asAnswer = sym (found k l i inside z);
         kept = r .kept;
         below = λ m big old x nz. let f = old x nz in omega arith;
         holds = λ x p. ⊎-elim
@@ -194,6 +194,6 @@ none-kept =
       probed = λ i j nz. absurd (nz (none-at 704 i));
     }
 
--- Nothing stands behind any place.
+-- Nothing stands after any place.
 pub none-below : (m : ℕ) → Below m (replicate 704 0)
 none-below m i nz = absurd (nz (none-at 704 i))

@@ -1,4 +1,4 @@
--- Internal: a set of numbers that are not 0 in a list of 704 places. A number stands at its hash or behind it, with no empty
+-- Internal: a set of numbers that are not 0 in a list of 704 places. A number stands at its hash or after it, with no empty
 -- place between; a place that holds 0 is empty.
 use mathlib.Core.Path.{_≡_}
 use mathlib.Core.List.{List, [], _∷_}
@@ -16,11 +16,11 @@ among k (x ∷ l) = eqb x k || among k l
 unfoldable pub hashOf : ℕ → ℕ
 hashOf k = (k / 4294967296 * 1640531527 + k % 4294967296 * 2135587861) / 8388608 % 512
 
--- no number stands at place m or behind it
+-- no number stands at place m or after it
 abbrev pub Below : ℕ → List ℕ → Type 0
 Below m l = (i : ℕ) → (getD l i 0 ≡ 0 → ⊥) → i < m
 
--- every number stands at its hash or behind it, and from its hash to its place no place is empty
+-- every number stands at its hash or after it, and from its hash to its place no place is empty
 pub record Kept (l : List ℕ) : Type 0 where
   pub sized : length l ≡ 704
   pub placed : (i : ℕ) → (getD l i 0 ≡ 0 → ⊥) → hashOf (getD l i 0) ≤ i
@@ -33,7 +33,7 @@ pub record Room (l : List ℕ) : Type 0 where
 
 -- the set with k put in; r says whether k was there
 pub record Put (old : List ℕ) (k : ℕ) (r : Bool) (new : List ℕ) : Type 0 where
-  pub told : r ≡ among k old
+  pub asAnswer : r ≡ among k old
   pub kept : Kept new
   pub below : (m : ℕ) → 512 ≤ m → Below m old → Below (m + 1) new
   pub holds : (x : ℕ) → 0 < x → among x new ≡ (eqb k x || among x old)

@@ -1,6 +1,6 @@
 // Internal: which Rule IDs came before. Each is a number that is not 0, and a set of them is kept in 704 places that are
-// lent: a number stands at the place that its hash tells, or behind it with no empty place between. 3,500 bytes hold at
-// most 174 rules, so the 192 places behind the last hash are enough and the search ends at an empty one.
+// lent: a number stands at the place that its hash tells, or after it with no empty place between. 3,500 bytes hold at
+// most 174 rules, so the 192 places after the last hash are enough and the search ends at an empty one.
 ghost use mathlib.Core.Path.{_≡_};
 ghost use Prim.Native.Nat.{_<_};
 ghost use Rattle.rule_ids.specs.Keys.{hashOf, Room, Put};

@@ -13,16 +13,16 @@ use Rattle.format.specs.Rules.{controlLength, labelLength}
 use Rattle.format.proofs.Slots.{length-at}
 use Rattle.sections.proofs.Laws.{at-drop, byte-number}
 
--- The byte at an offset that a count moves: the code's place i is the definition's offset o behind q.
+-- The byte at an offset that a count moves: the code's place i is the definition's offset o after q.
 pub byte-behind : (s : List ℕ) (q o i : ℕ) {v : ℕ} → i < length s → i ≡ q + o → v ≡ getD s i 0 → v ≡ number (bytesAt (drop q s) o 1)
 byte-behind s q o i h e f =
     f ∙ byte-number s i h ∙ ap (λ (k : ℕ). number (bytesAt s k 1)) e ∙ sym (ap number (at-drop s q o 1))
 
--- Bytes behind a place that are there are as many as are asked.
+-- Bytes after a place that are there are as many as are asked.
 pub length-behind : (s : List ℕ) (q o n : ℕ) → q + (o + n) ≤ length s → length (bytesAt (drop q s) o n) ≡ n
 length-behind s q o n h = let l = length-drop q s in length-at (drop q s) o n (omega arith)
 
--- ---- the label template of a 0005, with z bytes behind two masks of k bytes each
+-- ---- the label template of a 0005, with z bytes after two masks of k bytes each
 
 -- The code adds the masks' m bytes to the place, the definition k to the offset.
 pub label-at : (s : List ℕ) (q : ℕ) {m k z : ℕ} → m ≡ k → z ≡ 64 → bytesAt (drop q s) (9 + k + k + 1) z ≡ bytesAt s (q + 10 + m + m) 64

@@ -9,7 +9,7 @@ use lib.ListN.{length, getD, drop}
 use Rattle.format.specs.Bytes.{number, bytesAt}
 use Rattle.format.specs.Parts.{rule, exportParameters, tokenParameters, Part}
 use Rattle.format.specs.Rules.{has, ofKind, each, maskCovers, hasRequired}
-use Rattle.format.specs.Reading.{found, fault, need, told, stated, placeOf, closed, sectionRest}
+use Rattle.format.specs.Reading.{found, fault, need, asAnswer, stated, placeOf, afterSubsections, sectionRest}
 use Rattle.format.specs.declared.Answer.the-variants.{Accepted, Refused}
 use Rattle.format.proofs.Tests.{then-found}
 use Rattle.format.proofs.Turns.{subsectionsFrom, subs-none}
@@ -85,7 +85,7 @@ module _ {s : List ℕ} {p e q n : ℕ} {places : List ℕ} (full x : Bool) (w :
   rule-end : sectionRest full x rule p (drop p s)
       ≡ need (maskCovers (w .done)) (fault 18 (placeOf tokenParameters (p + 20) (w .done)) 5)
       (need (not full || hasRequired (ruleOf (drop p s) (w .done))) (fault 20 p 0) (found (ruleOf (drop p s) (w .done))))
-  unfolding closed
+  unfolding afterSubsections
   rule-end =
       let zero : e - q ≡ 0 = omega arith in
       section-rest full x rule s p e k l
@@ -93,21 +93,21 @@ module _ {s : List ℕ} {p e q n : ℕ} {places : List ℕ} (full x : Bool) (w :
       (sym (w .same x) ∙ ap (λ (a : ℕ). subsectionsFrom x rule (w .done) q a (drop q s)) zero ∙ subs-none x rule (w .done) q (drop q s))
 
   -- The rule is refused with 18 at its 0005 where the mask is too short.
-  pub ends-masked : maskCovers (w .done) ≡ false → Refused 18 (getD places 5 0) ≡ told sectionRows (sectionRest full x rule p (drop p s))
-  unfolding told need
+  pub ends-masked : maskCovers (w .done) ≡ false → Refused 18 (getD places 5 0) ≡ asAnswer sectionRows (sectionRest full x rule p (drop p s))
+  unfolding asAnswer need
   ends-masked b =
       let o = w .once tokenParameters refl in
       let stands : placeOf tokenParameters (p + 20) (w .done) ≡ getD places 5 0 = o .stands ∙ here-one (getD places 5 0) q (mask-stands s (w .done) (getD places 5 0) (o .parts) b) in
-      ap (λ (i : ℕ). Refused 18 i) (sym stands) ∙ sym (ap (told sectionRows) rule-end ∙ rw b)
+      ap (λ (i : ℕ). Refused 18 i) (sym stands) ∙ sym (ap (asAnswer sectionRows) rule-end ∙ rw b)
 
   -- It is refused with 20 where the 0003 is missing that it requires.
   pub ends-missing : maskCovers (w .done) ≡ true → (not full || hasRequired (ruleOf (drop p s) (w .done))) ≡ false
-      → Refused 20 p ≡ told sectionRows (sectionRest full x rule p (drop p s))
-  unfolding told need
-  ends-missing a b = sym (ap (told sectionRows) rule-end ∙ rw (a, b))
+      → Refused 20 p ≡ asAnswer sectionRows (sectionRest full x rule p (drop p s))
+  unfolding asAnswer need
+  ends-missing a b = sym (ap (asAnswer sectionRows) rule-end ∙ rw (a, b))
 
   -- It is accepted with its rows.
   pub ends-there : maskCovers (w .done) ≡ true → (not full || hasRequired (ruleOf (drop p s) (w .done))) ≡ true
-      → Accepted n ≡ told sectionRows (sectionRest full x rule p (drop p s))
-  unfolding told need
-  ends-there a b = ap Accepted (w .rows) ∙ sym (ap (told sectionRows) rule-end ∙ rw (a, b))
+      → Accepted n ≡ asAnswer sectionRows (sectionRest full x rule p (drop p s))
+  unfolding asAnswer need
+  ends-there a b = ap Accepted (w .rows) ∙ sym (ap (asAnswer sectionRows) rule-end ∙ rw (a, b))

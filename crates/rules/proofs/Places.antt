@@ -112,7 +112,7 @@ pub once-none : (s : List ℕ) (first : ℕ) (k : Kind) → Once s first first [
 unfolding standing orHere
 once-none s first k = record { parts = refl; stands = refl; within = λ h. absurd (omega arith) }
 
--- Behind a part of another kind, the place of this kind or the end.
+-- After a part of another kind, the place of this kind or the end.
 other-place : {s : List ℕ} {first q : ℕ} {us : List Part} {k : Kind} (i : ℕ) (u : Part) (t : ℕ) → Once s first q us k i
     → sameKind k (u .kind) ≡ false → size u ≡ t → placeOf k first (us ++ u ∷ []) ≡ orHere i (q + t)
 unfolding orHere
@@ -122,13 +122,13 @@ other-place {first = first} {q = q} {us = us} {k = k} zero u t o e l =
     ∙ ap₂ (λ (a b : ℕ). a + b) (o .stands) l
 other-place {first = first} {us = us} {k = k} (suc i) u t o e l = place-kept k first us u (once-has o ∙ not-none i) ∙ o .stands
 
--- Behind a part of another kind, this kind stands where it stood.
+-- After a part of another kind, this kind stands where it stood.
 pub once-other : {s : List ℕ} {first q : ℕ} {us : List Part} {k : Kind} {i : ℕ} (u : Part) {t : ℕ} → Once s first q us k i
     → sameKind k (u .kind) ≡ false → size u ≡ t → Once s first (q + t) (us ++ u ∷ []) k i
 once-other {us = us} {k = k} {i = i} u {t = t} o e l =
     record { parts = kind-other k us u e ∙ o .parts; stands = other-place i u t o e l; within = o .within }
 
--- The first part of its kind behind the earlier ones.
+-- The first part of its kind after the earlier ones.
 pub once-here : {s : List ℕ} {first q : ℕ} {us : List Part} {k : Kind} {i : ℕ} (t : ℕ) → Once s first q us k i → has k us ≡ false
     → 0 < q → q + madeLength k (drop q s) ≤ length s → Once s first (q + t) (us ++ partIn k (drop q s) ∷ []) k q
 unfolding orHere

@@ -5,7 +5,8 @@ use Prim.Native.Nat.{ℕ, _+_, _≤_}
 use native.Mathlib.Omega.{arith}
 use lib.ListN.{length, getD, length-append, length-replicate}
 use Rattle.format.specs.Bytes.{number, bytesAt}
-use Rattle.format.specs.Layout.{Item, code, zeros, own, count, fixed, counted, write, slots, fieldsIn, endOf}
+use Rattle.format.specs.Layout.{Item, code, zeros, own, count, fixed, counted, write}
+use Rattle.format.specs.Slots.{slots, fieldsIn, endOf}
 use Rattle.format.specs.Parts.{Kind, sectionId, tag, body, isSubsection, layout, size}
 use Rattle.format.specs.Reading.{madeLength, partIn}
 use Rattle.format.proofs.Numbers.{bigEndian-length}

@@ -11,10 +11,9 @@ use lib.ListN.{length, getD, set, drop, length-drop, length-set, replicate, leng
 use lib.Seq.{getD-set-same, getD-set-other}
 use borrow.Author.Tests.{eqb-true, ne-eqb, ltb-true, not-true}
 use Rattle.format.specs.Bytes.{number, bytesAt}
-use Rattle.format.specs.Parts.{Kind, rule, transportVariant, transportRule, exportParameters, sourceRule, tokenParameters, tag, sameKind}
-use Rattle.format.specs.Parts.{subsectionKind, Part, size}
+use Rattle.format.specs.Parts.{Kind, rule, transportVariant, transportRule, exportParameters, sourceRule, tokenParameters, tag, sameKind, Part, size}
+use Rattle.format.specs.Reading.{subsectionKind, Outcome, refused, found, fault, tested, stated, madeLength, partIn, subsectionChecks, subsection}
 use Rattle.format.specs.Rules.{has}
-use Rattle.format.specs.Reading.{Outcome, refused, found, fault, tested, stated, madeLength, partIn, subsectionChecks, subsection}
 use Rattle.format.proofs.Elements.{some-inj}
 use Rattle.format.proofs.Finding.{every-kind, sameKind-eq, subsectionKind-sound}
 use Rattle.format.proofs.Tests.{needed, tests-passed}
@@ -122,12 +121,12 @@ module _ {s : List ℕ} {p e q n : ℕ} {places : List ℕ} (w : RuleRead s p e 
   read = sub-finds false rule (w .done) q (e - q) (drop q s) (f false) z
 
   -- The tag tells it.
-  told : subsectionKind rule g ≡ some (read .kind)
-  told = ap (subsectionKind rule) (l₂ ∙ sym (at-here s q 2)) ∙ read .told
+  asAnswer : subsectionKind rule g ≡ some (read .kind)
+  asAnswer = ap (subsectionKind rule) (l₂ ∙ sym (at-here s q 2)) ∙ read .asAnswer
 
   -- Its tag is the tag that was read.
   tag-told : tag (read .kind) ≡ g
-  tag-told = subsectionKind-sound rule g (read .kind) told .2
+  tag-told = subsectionKind-sound rule g (read .kind) asAnswer .2
 
   -- A tag that was read has its place among the six.
   pub tag-six : g < 6
@@ -140,7 +139,7 @@ module _ {s : List ℕ} {p e q n : ℕ} {places : List ℕ} (w : RuleRead s p e 
   -- It is the first of its kind, and its counts make the bytes that it states.
   new : (has (read .kind) (w .done) ≡ false) × (madeLength (read .kind) (drop q s) ≡ t)
   new =
-      let a = sub-new false rule (read .kind) (w .done) q (e - q) (drop q s) (read .told) (read .same) in
+      let a = sub-new false rule (read .kind) (w .done) q (e - q) (drop q s) (read .asAnswer) (read .same) in
       (a .0, a .1 ∙ ap number (at-drop s q 2 2) ∙ sym l)
 
   -- So it is as long.
@@ -160,27 +159,27 @@ module _ {s : List ℕ} {p e q n : ℕ} {places : List ℕ} (w : RuleRead s p e 
       let r = room .1 in
       ⊎-elim
       (λ d.
-      let same : j ≡ k = some-inj (sym o ∙ ap (subsectionKind rule) d ∙ told) in
+      let same : j ≡ k = some-inj (sym o ∙ ap (subsectionKind rule) d ∙ asAnswer) in
       let here : getD (set places g q) (tag j) 0 ≡ q = ap (λ (i : ℕ). getD (set places g q) i 0) d ∙ getD-set-same places g q 0 (omega (arith, w .six, tag-six)) in
       subst (λ (y : Kind). Once s (p + 20) (q + t) (w .done ++ u ∷ []) y (getD (set places g q) (tag j) 0)) (sym same)
       (subst (λ (i : ℕ). Once s (p + 20) (q + t) (w .done ++ u ∷ []) k i) (sym here)
-      (once-here t (w .once k (ap (subsectionKind rule) tag-told ∙ told)) (new .0) (omega arith) (omega (arith, new .1)))))
+      (once-here t (w .once k (ap (subsectionKind rule) tag-told ∙ asAnswer)) (new .0) (omega arith) (omega (arith, new .1)))))
       (λ d.
       subst (λ (i : ℕ). Once s (p + 20) (q + t) (w .done ++ u ∷ []) j i) (sym (getD-set-other places g (tag j) q 0 d))
       (once-other u (w .once j o) (other-tag j k (λ y. d (y ∙ tag-told))) long))
       (same-or (tag j) g)
 
-  -- What is read behind the part is what is read from the first one on.
+  -- What is read after the part is what is read from the first one on.
   same-more : (x : Bool) → subsectionsFrom x rule (w .done ++ partIn (read .kind) (drop q s) ∷ []) (q + t) (e - (q + t)) (drop (q + t) s)
       ≡ subsectionsFrom x rule [] (p + 20) (e - (p + 20)) (drop (p + 20) s)
   same-more x =
       let o = loop-on s x rule (w .done) q e h (f x) z l in
-      let k : o .kind ≡ read .kind = some-inj (sym (o .told) ∙ ap (subsectionKind rule) (sym l₂) ∙ told) in
+      let k : o .kind ≡ read .kind = some-inj (sym (o .asAnswer) ∙ ap (subsectionKind rule) (sym l₂) ∙ asAnswer) in
       ap (λ (y : Kind). subsectionsFrom x rule (w .done ++ partIn y (drop q s) ∷ []) (q + t) (e - (q + t)) (drop (q + t) s)) (sym k)
       ∙ o .same
       ∙ w .same x
 
-  -- The loop goes on behind the part.
+  -- The loop goes on after the part.
   pub turn-on : RuleRead s p e (q + t) (n + 1) (set places g q)
   turn-on =
       let u : Part = partIn (read .kind) (drop q s) in

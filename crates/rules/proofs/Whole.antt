@@ -7,9 +7,10 @@ use native.Mathlib.Omega.{arith}
 use lib.ListN.{length, getD, drop}
 use Rattle.format.specs.Bytes.{Bytes, number, bytesAt}
 use Rattle.format.specs.Forms.{ruleIdForm}
-use Rattle.format.specs.Parts.{Kind, rule, sameKind, sectionKind, Part}
+use Rattle.format.specs.Parts.{Kind, rule, sameKind, Part}
+use Rattle.format.specs.Reading.{sectionKind}
 use Rattle.format.specs.Rules.{Section, hasRequired}
-use Rattle.format.specs.Reading.{Outcome, found, told, stated, partIn, fieldChecks, kindBefore, ruleBefore, sectionChecks, closed, sectionRest}
+use Rattle.format.specs.Reading.{Outcome, found, asAnswer, stated, partIn, fieldChecks, kindBefore, ruleBefore, sectionChecks, afterSubsections, sectionRest}
 use Rattle.format.specs.Reading.{section}
 use Rattle.format.specs.declared.Answer.{Answer}
 use Rattle.format.specs.declared.Answer.the-variants.{Accepted, Refused}
@@ -59,14 +60,14 @@ key-told s {p} {before} {old} {v = v} w put eight l pos e =
     rule-key (partIn rule (drop p s)) before eight (w .eight)
     ∙ sym (w .holds (number (bytesAt (drop p s) 4 8)) (omega arith))
     ∙ ap (λ (k : ℕ). among k old) (sym same)
-    ∙ sym (put .told)
+    ∙ sym (put .asAnswer)
     ∙ e
 
 -- ---- the answer
 
 -- The head of a section that is found is the part that the bytes begin with.
 rest-head : (full x : Bool) (k : Kind) (at : ℕ) (r : List ℕ) (t : Section) → sectionRest full x k at r ≡ found t → t .head ≡ partIn k r
-unfolding sectionRest closed
+unfolding sectionRest afterSubsections
 rest-head full x k at r t e =
     let f = followed _ _ t e in
     let m = needed _ _ _ t (f .2) in
@@ -74,10 +75,10 @@ rest-head full x k at r t e =
     sym (ap (λ (s : Section). s .head) (found-inj (n .1)))
 
 -- What is refused is not found.
-not-found : {A : Type 0} (f : A → ℕ) (o : Outcome A) (a : A) {n at : ℕ} → Refused n at ≡ told f o → o ≡ found a → ⊥
-unfolding told
+not-found : {A : Type 0} (f : A → ℕ) (o : Outcome A) (a : A) {n at : ℕ} → Refused n at ≡ asAnswer f o → o ≡ found a → ⊥
+unfolding asAnswer
 not-found f o a e g =
-    let q = e ∙ ap (told f) g in
+    let q = e ∙ ap (asAnswer f) g in
     let z : _≡_ {A = ℕ} 0 1 = cc in
     omega arith
 
@@ -95,12 +96,12 @@ module _ (full x : Bool) (before : List Section) (s : List ℕ) (p : ℕ) (four 
       → EightBytes (bytesAt (drop p s) 4 8) → v ≡ number (bytesAt s (p + 4) 8) → 20 ≤ stated (drop p s)
       → ruleBefore (partIn rule (drop p s)) before ≡ false
       → 0 ≡ firstRefusal (sectionChecks x rule (kindBefore rule before) false (drop p s))
-      → r ≡ told sectionRows (sectionRest full x rule p (drop p s)) → RuleAnswered full x before s p new r
+      → r ≡ asAnswer sectionRows (sectionRest full x rule p (drop p s)) → RuleAnswered full x before s p new r
   rule-goes {old} {new} {v} {seen} w put eight l long e f a =
       let goes = section-goes full x rule before s p four (ap sectionKind id) refl e f in
       let same : v ≡ number (bytesAt (drop p s) 4 8) = l ∙ sym (ap number (at-drop s p 4 8)) in
       record {
-        same = a ∙ sym (ap (told sectionRows) goes);
+        same = a ∙ sym (ap (asAnswer sectionRows) goes);
         held = λ t g.
             let head : t .head ≡ partIn rule (drop p s) = rest-head full x rule p (drop p s) t (sym goes ∙ g) in
             held-put t w
@@ -115,12 +116,12 @@ module _ (full x : Bool) (before : List Section) (s : List ℕ) (p : ℕ) (four 
 module _ (full x : Bool) (s : List ℕ) (p : ℕ) (l : p + 20 ≡ p + stated (drop p s)) where
   -- It is accepted, with its own row.
   pub bare-there : (not full || hasRequired (ruleOf (drop p s) [])) ≡ true
-      → Accepted 1 ≡ told sectionRows (sectionRest full x rule p (drop p s))
+      → Accepted 1 ≡ asAnswer sectionRows (sectionRest full x rule p (drop p s))
   unfolding rule-start
   bare-there b = ends-there full x (rule-start s p (p + 20) (omega arith)) (omega arith) (omega arith) l refl b
 
   -- It is refused with 20 where it requires a 0003.
   pub bare-missing : (not full || hasRequired (ruleOf (drop p s) [])) ≡ false
-      → Refused 20 p ≡ told sectionRows (sectionRest full x rule p (drop p s))
+      → Refused 20 p ≡ asAnswer sectionRows (sectionRest full x rule p (drop p s))
   unfolding rule-start
   bare-missing b = ends-missing full x (rule-start s p (p + 20) (omega arith)) (omega arith) (omega arith) l refl b

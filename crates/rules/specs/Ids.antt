@@ -9,7 +9,7 @@ use lib.ListN.{length, getD, drop}
 use Rattle.format.specs.Bytes.{All, Bytes, number}
 use Rattle.format.specs.Parts.{rule, sameKind}
 use Rattle.format.specs.Rules.{Section}
-use Rattle.format.specs.Reading.{found, stated, section, told}
+use Rattle.format.specs.Reading.{found, stated, section, asAnswer}
 use Rattle.format.specs.declared.Answer.{Answer}
 use Rattle.rule_ids.specs.Keys.{among, Below, Kept}
 use Rattle.sections.specs.Refusals.{sectionRows}
@@ -43,5 +43,5 @@ pub record Held (before : List Section) (p : ℕ) (ids : List ℕ) : Type 0 wher
 
 -- The rule at p, with the sections before, is answered by r; where it is found, the set that is left holds its Rule ID too.
 pub record RuleAnswered (full x : Bool) (before : List Section) (s : List ℕ) (p : ℕ) (ids : List ℕ) (r : Answer) : Type 0 where
-  pub same : r ≡ told sectionRows (section full x before p (drop p s))
+  pub same : r ≡ asAnswer sectionRows (section full x before p (drop p s))
   pub held : (t : Section) → section full x before p (drop p s) ≡ found t → Held (before ++ t ∷ []) (p + stated (drop p s)) ids

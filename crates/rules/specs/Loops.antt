@@ -7,9 +7,9 @@ use mathlib.Core.Option.{some}
 use Prim.Native.Nat.{ℕ, zero, suc, _+_, _-_, _<_, _≤_}
 use lib.Dec.{eqb}
 use lib.ListN.{length, getD, drop}
-use Rattle.format.specs.Parts.{Kind, rule, tag, subsectionKind, Part}
+use Rattle.format.specs.Parts.{Kind, rule, tag, Part}
+use Rattle.format.specs.Reading.{subsectionKind, madeLength, partIn, placeOf}
 use Rattle.format.specs.Rules.{Section, has, ofKind}
-use Rattle.format.specs.Reading.{madeLength, partIn, placeOf}
 use Rattle.format.proofs.Turns.{subsectionsFrom}
 
 -- the kind is a subsection of a rule

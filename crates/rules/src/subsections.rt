@@ -6,7 +6,7 @@ ghost use Prim.Native.Nat.{_+_, _≤_};
 ghost use lib.ListN.{length, drop};
 ghost use Rattle.format.specs.Parts.{rule, exportParameters, tokenParameters, Part};
 ghost use Rattle.format.specs.Rules.{has, ofKind, maskCovers, hasRequired};
-ghost use Rattle.format.specs.Reading.{stated, told, sectionRest};
+ghost use Rattle.format.specs.Reading.{stated, asAnswer, sectionRest};
 ghost use Rattle.sections.specs.Refusals.{subRefusal, sectionRows};
 ghost use Rattle.rules.specs.Loops.{Marked, Within, standing, ruleOf};
 use fields::four;
@@ -76,7 +76,7 @@ pub fn has_required(s: &[u8], p: usize, full: bool, exported: bool) -> bool
 // The subsections of the rule at p, which ends at e, and its end; the rows of the section.
 pub fn rule_subs(s: &[u8], p: usize, e: usize, full: bool) -> Answer
     requires { ⌜ (p + 20 ≤ e) × (e ≤ length (now s)) × (length (now s) ≤ 3500) × (e ≡ p + stated (drop p (now s))) ⌝ }
-    ensures { λ r. ⌜ ((x : Bool) → r ≡ told sectionRows (sectionRest full x rule p (drop p (now (s .entry))))) ⌝ }
+    ensures { λ r. ⌜ ((x : Bool) → r ≡ asAnswer sectionRows (sectionRest full x rule p (drop p (now (s .entry))))) ⌝ }
 {
     let mut places = [0usize; 6];
     let mut q = p + 20;

@@ -13,7 +13,7 @@ use storing::put_four;
 use storing::put_one;
 use storing::put_two;
 
-// Section 12, a rule: an id of 8 bytes, and the rule's values. Subsections are added behind it.
+// Section 12, a rule: an id of 8 bytes, and the rule's values. Subsections are added after it.
 pub fn rule(
     draft: &mut [u8],
     rule_id: &[u8],
@@ -54,7 +54,7 @@ pub fn name(draft: &mut [u8], name: &[u8]) -> Answer
     add_section(draft, &mut part[..end])
 }
 
-// Section 14, the information: its flags. Subsections are added behind it.
+// Section 14, the information: its flags. Subsections are added after it.
 pub fn information(draft: &mut [u8], flags: u32) -> Answer
     ensures answer { λ r. ⌜ r ≡ writeAnswer (addition Parts.information (informationFields flags) (now (draft .entry))) ⌝ }
     ensures draft { λ _. ⌜ now (draft .exit) ≡ draftAfter (addition Parts.information (informationFields flags) (now (draft .entry))) (now (draft .entry)) ⌝ }

@@ -10,10 +10,10 @@ use lib.ListN.{length, getD, drop, length-drop}
 use lib.Seq.{drop-drop}
 use borrow.Author.Tests.{eqb-true, eqb-false, le-leb, not-true}
 use Rattle.format.specs.Bytes.{number, bytesAt, allZero}
-use Rattle.format.specs.Parts.{Kind, rule, information, sameKind, sectionKind}
+use Rattle.format.specs.Parts.{Kind, rule, information, sameKind}
+use Rattle.format.specs.Reading.{sectionKind, Outcome, refused, found, fault, andThen, tested, asAnswer, stated, madeLength, partIn}
 use Rattle.format.specs.Rules.{Check, Section, hasRequired}
-use Rattle.format.specs.Reading.{Outcome, refused, found, fault, andThen, tested, told, stated, madeLength, partIn}
-use Rattle.format.specs.Reading.{kindBefore, ruleBefore, sectionChecks, closed, sectionRest, section}
+use Rattle.format.specs.Reading.{kindBefore, ruleBefore, sectionChecks, afterSubsections, sectionRest, section}
 use Rattle.format.specs.declared.Answer.the-variants.{Refused}
 use Rattle.format.proofs.Finding.{and-split, every-kind}
 use Rattle.format.proofs.Tests.{Hold, need-passed, then-found}
@@ -44,7 +44,7 @@ module _ (full x : Bool) (k : Kind) (before : List Section) (s : List ℕ) (p : 
   -- A section with a number is refused with it, at its place.
   pub section-stops : {m : ℕ} {seen repeated : Bool} → p + 4 ≤ length s → sectionKind (number (bytesAt s p 1)) ≡ some k
       → kindBefore k before ≡ seen → ruleBefore (partIn k (drop p s)) before ≡ repeated
-      → m ≡ Tests seen repeated → (m ≡ 0 → ⊥) → Refused m p ≡ told sectionRows (section full x before p (drop p s))
+      → m ≡ Tests seen repeated → (m ≡ 0 → ⊥) → Refused m p ≡ asAnswer sectionRows (section full x before p (drop p s))
   section-stops {m} h e a b f z =
       let g : m ≡ Tests (kindBefore k before) (ruleBefore (partIn k (drop p s)) before) = f ∙ ap₂ Tests (sym a) (sym b) in
       refused-told sectionRows
@@ -76,24 +76,24 @@ head-room {h} m seen s p e z =
     let c = room-case (leb m (stated r)) (leb (stated r) (length r)) h _ 6 m (stated r) (length r) refl refl (λ q. omega arith) z v in
     (c .0, omega (arith, c .1))
 
--- Behind its own fields a section that ends at e is its subsections and its end.
+-- After its own fields a section that ends at e is its subsections and its end.
 pub section-rest : (full x : Bool) (k : Kind) (s : List ℕ) (p e : ℕ) → p + madeLength k (drop p s) ≤ e → e ≡ p + stated (drop p s)
     → sectionRest full x k p (drop p s)
     ≡ andThen (subsectionsFrom x k [] (p + madeLength k (drop p s)) (e - (p + madeLength k (drop p s))) (drop (p + madeLength k (drop p s)) s))
-    (λ us. closed full p (p + madeLength k (drop p s)) (record { head = partIn k (drop p s); subs = us }))
+    (λ us. afterSubsections full p (p + madeLength k (drop p s)) (record { head = partIn k (drop p s); subs = us }))
 unfolding sectionRest
 section-rest full x k s p e h l =
     let n : ℕ = stated (drop p s) in
     let m : ℕ = madeLength k (drop p s) in
     let left : n - m ≡ e - (p + m) = omega arith in
-    ap (λ o. andThen o (λ us. closed full p (p + m) (record { head = partIn k (drop p s); subs = us })))
+    ap (λ o. andThen o (λ us. afterSubsections full p (p + m) (record { head = partIn k (drop p s); subs = us })))
     (subs-from (suc n) x k [] (p + m) (n - m) (drop m (drop p s)) (omega arith)
     ∙ ap₂ (λ (a : ℕ) (y : List ℕ). subsectionsFrom x k [] (p + m) a y) left (drop-drop m p s))
 
 -- A section without subsections whose counts make its length is found as it is.
 plain-rest : (full x : Bool) (k : Kind) (p : ℕ) (r : List ℕ) → madeLength k r ≡ stated r → sameKind rule k ≡ false → sameKind information k ≡ false
     → sectionRest full x k p r ≡ found (record { head = partIn k r; subs = [] })
-unfolding sectionRest closed
+unfolding sectionRest afterSubsections
 plain-rest full x k p r e a b =
     let m : ℕ = madeLength k r in
     let none : stated r - m ≡ 0 = omega arith in

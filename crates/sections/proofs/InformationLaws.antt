@@ -8,9 +8,9 @@ use native.Mathlib.Omega.{arith}
 use lib.Dec.{eqb}
 use lib.ListN.{drop}
 use borrow.Author.Tests.{ne-eqb}
-use Rattle.format.specs.Parts.{Kind, information, protection, dates, tokenParameters, sameKind, subsectionKind, Part}
+use Rattle.format.specs.Parts.{Kind, information, protection, dates, tokenParameters, sameKind, Part}
+use Rattle.format.specs.Reading.{subsectionKind, found, fault, need, andThen, asAnswer, stated, partIn, afterSubsections, sectionRest}
 use Rattle.format.specs.Rules.{has, ofKind, maskCovers}
-use Rattle.format.specs.Reading.{found, fault, need, andThen, told, stated, partIn, closed, sectionRest}
 use Rattle.format.specs.declared.Answer.the-variants.{Accepted, Refused}
 use Rattle.format.proofs.Tests.{then-found, need-passed}
 use Rattle.format.proofs.Turns.{subsectionsFrom, subs-none}
@@ -71,11 +71,11 @@ turn-on {s} {p} {e} {x} {q} {n} {t} k w h g r same a b c =
 
 -- ---- the whole section
 
--- Behind its fixed fields, section 14 is its subsections and its end.
+-- After its fixed fields, section 14 is its subsections and its end.
 pub information-rest : (full x : Bool) (s : List ℕ) (p e : ℕ) → p + 10 ≤ e → e ≡ p + stated (drop p s)
     → sectionRest full x information p (drop p s)
     ≡ andThen (subsectionsFrom x information [] (p + 10) (e - (p + 10)) (drop (p + 10) s))
-    (λ us. closed full p (p + 10) (record { head = partIn information (drop p s); subs = us }))
+    (λ us. afterSubsections full p (p + 10) (record { head = partIn information (drop p s); subs = us }))
 information-rest full x s p e h l = section-rest full x information s p e h l
 
 -- Where no 0005 is, 0005 and 0003 stand in no relation.
@@ -84,9 +84,9 @@ mask-none us e = rw e
 
 -- The end of section 14: its 0001 is required.
 information-closed : (full : Bool) (at first : ℕ) (r : List ℕ) (us : List Part) → ofKind tokenParameters us ≡ []
-    → closed full at first (record { head = partIn information r; subs = us })
+    → afterSubsections full at first (record { head = partIn information r; subs = us })
     ≡ need (not full || has protection us) (fault 20 at 0) (found (record { head = partIn information r; subs = us }))
-unfolding closed
+unfolding afterSubsections
 information-closed full at first r us m = need-passed (maskCovers us) (fault 18 _ 5) _ (mask-none us m)
 
 -- What the loop has read when it ends is all of the section.
@@ -104,10 +104,10 @@ loop-end {s} {p} {e} {x} {q} full w h k l =
 -- The section is accepted with its rows, or refused with 20.
 module _ {s : List ℕ} {p e : ℕ} {x : Bool} {q n : ℕ} {protected dated : Bool} (full : Bool) (w : InformationRead s p e x q n protected dated)
     (h : e ≤ q) (k : p + 10 ≤ e) (l : e ≡ p + stated (drop p s)) where
-  pub ends-there : (not full || protected) ≡ true → Accepted n ≡ told sectionRows (sectionRest full x information p (drop p s))
-  unfolding told need
-  ends-there b = ap Accepted (w .rows) ∙ sym (ap (told sectionRows) (loop-end full w h k l) ∙ rw b)
+  pub ends-there : (not full || protected) ≡ true → Accepted n ≡ asAnswer sectionRows (sectionRest full x information p (drop p s))
+  unfolding asAnswer need
+  ends-there b = ap Accepted (w .rows) ∙ sym (ap (asAnswer sectionRows) (loop-end full w h k l) ∙ rw b)
 
-  pub ends-missing : (not full || protected) ≡ false → Refused 20 p ≡ told sectionRows (sectionRest full x information p (drop p s))
-  unfolding told need
-  ends-missing b = sym (ap (told sectionRows) (loop-end full w h k l) ∙ rw b)
+  pub ends-missing : (not full || protected) ≡ false → Refused 20 p ≡ asAnswer sectionRows (sectionRest full x information p (drop p s))
+  unfolding asAnswer need
+  ends-missing b = sym (ap (asAnswer sectionRows) (loop-end full w h k l) ∙ rw b)

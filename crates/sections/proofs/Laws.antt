@@ -19,7 +19,7 @@ use Rattle.format.specs.declared.Answer.{Answer}
 use Rattle.format.specs.declared.Answer.the-variants.{Refused}
 use Rattle.sections.specs.Refusals.{firstRefusal, unless, subHeadChecks}
 
--- ---- bytes behind a place
+-- ---- bytes after a place
 
 -- the bytes at an offset of what stands at a place
 pub at-drop : (s : List ℕ) (p o n : ℕ) → bytesAt (drop p s) o n ≡ bytesAt s (p + o) n
@@ -48,7 +48,7 @@ abbrev pub numbered : List Check → Bool
 numbered [] = true
 numbered (c ∷ cs) = not (eqb (c .refusal) 0) && numbered cs
 
--- the tests in front stop, or lead to those behind
+-- the tests in front stop, or lead to those after
 stop-case : (b : Bool) (h m k r : ℕ) → h ≡ elim b as (λ x. ℕ) [ true ↦ m | false ↦ r ] → (h ≡ m → h ≡ k)
     → h ≡ elim b as (λ x. ℕ) [ true ↦ k | false ↦ r ]
 stop-case true h m k r q ih = ih q
@@ -86,7 +86,7 @@ unless-stop (suc n) at a h = refl
 -- ---- single tests, as the code makes them
 
 module _ (s : List ℕ) (p o n : ℕ) {v : ℕ} (e : v ≡ number (bytesAt s (p + o) n)) where
-  -- what was read at a place is what stands at the offset behind it
+  -- what was read at a place is what stands at the offset after it
   pub number-at : v ≡ number (bytesAt (drop p s) o n)
   number-at = e ∙ sym (ap number (at-drop s p o n))
 

@@ -11,9 +11,10 @@ use lib.ListN.{length, drop, length-append}
 use lib.Seq.{drop-drop}
 use borrow.Author.Tests.{eqb-false, le-leb, lt-leb, not-true}
 use Rattle.format.specs.Bytes.{number, bytesAt}
-use Rattle.format.specs.Parts.{Kind, sameKind, subsectionKind, Part}
+use Rattle.format.specs.Parts.{Kind, sameKind, Part}
+use Rattle.format.specs.Reading.{subsectionKind}
 use Rattle.format.specs.Rules.{Check, has, ofKind}
-use Rattle.format.specs.Reading.{Fault, fault, place, Outcome, refused, found, need, andThen, tested, told, stated, partIn, subsectionChecks, subsection}
+use Rattle.format.specs.Reading.{Fault, fault, place, Outcome, refused, found, need, andThen, tested, asAnswer, stated, partIn, subsectionChecks, subsection}
 use Rattle.format.specs.declared.Answer.the-variants.{Refused}
 use Rattle.format.proofs.Finding.{and-split, every-kind}
 use Rattle.format.proofs.Beginnings.{kind-join}
@@ -32,9 +33,9 @@ pub record RefusedAs {A : Type 0} (o : Outcome A) (n at : ℕ) : Type 0 where
   pub stands : place why ≡ at
 
 -- It is told as such, whatever would be counted, and it goes straight out.
-pub refused-told : {A : Type 0} {o : Outcome A} {n at : ℕ} (f : A → ℕ) → RefusedAs o n at → Refused n at ≡ told f o
-unfolding told
-refused-told f r = ap₂ Refused (sym (r .number)) (sym (r .stands)) ∙ sym (ap (told f) (r .same))
+pub refused-told : {A : Type 0} {o : Outcome A} {n at : ℕ} (f : A → ℕ) → RefusedAs o n at → Refused n at ≡ asAnswer f o
+unfolding asAnswer
+refused-told f r = ap₂ Refused (sym (r .number)) (sym (r .stands)) ∙ sym (ap (asAnswer f) (r .same))
 
 pub refused-then : {A B : Type 0} {o : Outcome A} {n at : ℕ} (next : A → Outcome B) → RefusedAs o n at → RefusedAs (andThen o next) n at
 unfolding andThen
@@ -95,14 +96,14 @@ module _ (x : Bool) (o : Kind) (before : List Part) (at n : ℕ) (r : List ℕ) 
   sub-stops : {m : ℕ} → m ≡ subRefusal x o before n r → (m ≡ 0 → ⊥) → RefusedAs (subsection x o before at n r) m at
   unfolding subsection subRefusal by-kind by-number
   sub-stops e h =
-      let told : Option Kind = subsectionKind o (number (bytesAt r 0 2)) in
+      let asAnswer : Option Kind = subsectionKind o (number (bytesAt r 0 2)) in
       subst (λ (y : ℕ). RefusedAs (subsection x o before at n r) y at) (sym e)
-      (stop-test (leb 4 n) 12 at 0 (by-number told) (by-kind told) (λ k. kind-stops told k) (λ z. h (e ∙ z)))
+      (stop-test (leb 4 n) 12 at 0 (by-number asAnswer) (by-kind asAnswer) (λ k. kind-stops asAnswer k) (λ z. h (e ∙ z)))
 
   -- One without a number is found, as the kind that its tag tells.
   pub record FoundAs : Type 0 where
     pub kind : Kind
-    pub told : subsectionKind o (number (bytesAt r 0 2)) ≡ some kind
+    pub asAnswer : subsectionKind o (number (bytesAt r 0 2)) ≡ some kind
     pub same : subsection x o before at n r ≡ found (partIn kind r)
 
   find-kind : (b : Bool) (m : Option Kind) → leb 4 n ≡ b → subsectionKind o (number (bytesAt r 0 2)) ≡ m
@@ -112,7 +113,7 @@ module _ (x : Bool) (o : Kind) (before : List Part) (at n : ℕ) (r : List ℕ) 
   find-kind true none q w e = absurd (omega arith)
   find-kind true (some k) q w e = record {
     kind = k;
-    told = w;
+    asAnswer = w;
     same =
         ap₂ (λ (c : Bool) (y : Option Kind). need c (fault 12 at 0) (elim y as (λ z. Outcome Part) [ none ↦ refused (fault 13 at 0) | some j ↦ tested at (subsectionChecks x j (has j before) n r) (found (partIn j r)) ])) q w
         ∙ leads at (subsectionChecks x k (has k before) n r) (found (partIn k r)) (sub-numbered x k (has k before) n r) e;
@@ -147,7 +148,7 @@ module _ (x : Bool) (o : Kind) (before : List Part) (n : ℕ) (r : List ℕ) whe
 
 -- ---- a turn of the loop over the subsections of a section that ends at e
 
--- Behind a place, the bytes at offset 0 stand at the place.
+-- After a place, the bytes at offset 0 stand at the place.
 pub at-here : (s : List ℕ) (q n : ℕ) → number (bytesAt (drop q s) 0 n) ≡ number (bytesAt s q n)
 at-here s q n = ap number (at-drop s q 0 n ∙ ap (λ (i : ℕ). bytesAt s i n) (add-zero q))
 
@@ -168,10 +169,10 @@ module _ (s : List ℕ) (x : Bool) (o : Kind) (done : List Part) (q e : ℕ) (h 
       let l : stated (drop q s) ≡ number (bytesAt s (q + 2) 2) = ap number (at-drop s q 2 2) in
       (omega (arith, r .0), omega (arith, r .1))
 
-  -- Then the loop goes on behind it, t bytes further, with that part behind the earlier ones.
+  -- Then the loop goes on after it, t bytes further, with that part after the earlier ones.
   pub record GoesOn (t : ℕ) : Type 0 where
     pub kind : Kind
-    pub told : subsectionKind o (number (bytesAt s q 2)) ≡ some kind
+    pub asAnswer : subsectionKind o (number (bytesAt s q 2)) ≡ some kind
     pub same : subsectionsFrom x o (done ++ partIn kind (drop q s) ∷ []) (q + t) (e - (q + t)) (drop (q + t) s)
         ≡ subsectionsFrom x o done q (e - q) (drop q s)
 
@@ -184,7 +185,7 @@ module _ (s : List ℕ) (x : Bool) (o : Kind) (done : List Part) (q e : ℕ) (h 
       let left : e - q - stated (drop q s) ≡ e - (q + t) = omega arith in
       record {
         kind = g .kind;
-        told = sym (ap (subsectionKind o) (at-here s q 2)) ∙ g .told;
+        asAnswer = sym (ap (subsectionKind o) (at-here s q 2)) ∙ g .asAnswer;
         same =
             sym
             (subs-more x o done q (e - q) (drop q s) (omega arith)

@@ -6,9 +6,9 @@ use lib.Dec.{leb}
 use lib.ListN.{length, take}
 use mathlib.Core.Option.{none, some}
 use Rattle.format.specs.Bytes.{number, allZero, bytesAt}
-use Rattle.format.specs.Parts.{Kind, publicKey, Part, subsectionKind}
+use Rattle.format.specs.Parts.{Kind, publicKey, Part}
+use Rattle.format.specs.Reading.{subsectionKind, stated, partIn, subsectionChecks}
 use Rattle.format.specs.Rules.{Check, check, checks, Section, has}
-use Rattle.format.specs.Reading.{stated, partIn, subsectionChecks}
 use Rattle.format.specs.declared.Answer.{Answer}
 use Rattle.format.specs.declared.Answer.the-variants.{Refused}
 

@@ -7,7 +7,7 @@ ghost use mathlib.Core.List.{List};
 ghost use Rattle.format.specs.Parts.{information, protection, dates, Part};
 ghost use Rattle.format.specs.Bytes.{number, bytesAt};
 ghost use Rattle.format.specs.Rules.{has, Section};
-ghost use Rattle.format.specs.Reading.{fieldChecks, subsectionChecks, stated, told, sectionRest, section, kindBefore};
+ghost use Rattle.format.specs.Reading.{fieldChecks, subsectionChecks, stated, asAnswer, sectionRest, section, kindBefore};
 ghost use Rattle.sections.specs.Refusals.{firstRefusal, subRefusal, sectionRows};
 use crate::section_head;
 use crate::subsection_head;
@@ -114,7 +114,7 @@ fn information_sub(
 // The subsections of the section 14 at p, which ends at e, and what it requires; the rows of the section.
 fn information_subs(s: &[u8], p: usize, e: usize, external: bool, full: bool) -> Answer
     requires { ⌜ (p + 10 ≤ e) × (e ≤ length (now s)) × (length (now s) ≤ 3500) × (e ≡ p + stated (drop p (now s))) ⌝ }
-    ensures { λ r. ⌜ r ≡ told sectionRows (sectionRest full external information p (drop p (now (s .entry)))) ⌝ }
+    ensures { λ r. ⌜ r ≡ asAnswer sectionRows (sectionRest full external information p (drop p (now (s .entry)))) ⌝ }
 {
     let mut q = p + 10;
     let mut n: u32 = 1;
@@ -145,7 +145,7 @@ fn information_subs(s: &[u8], p: usize, e: usize, external: bool, full: bool) ->
 // The section 14 at p, of which four bytes are there; seen: a section 14 stands before.
 pub fn information_at(s: &[u8], p: usize, external: bool, full: bool, seen: bool) -> Answer
     requires { ⌜ (p + 4 ≤ length (now s)) × (length (now s) ≤ 3500) × (number (bytesAt (now s) p 1) ≡ 20) ⌝ }
-    ensures { λ r. ⌜ ((before : List Section) → kindBefore information before ≡ seen → r ≡ told sectionRows (section full external before p (drop p (now (s .entry))))) ⌝ }
+    ensures { λ r. ⌜ ((before : List Section) → kindBefore information before ≡ seen → r ≡ asAnswer sectionRows (section full external before p (drop p (now (s .entry))))) ⌝ }
 {
     let h = section_head(s, p, 10, seen);
     if h != 0 {

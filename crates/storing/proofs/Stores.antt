@@ -1,4 +1,4 @@
--- Texts stored one behind the other. Assumes nothing.
+-- Texts stored one after the other. Assumes nothing.
 use mathlib.Core.Path.{_≡_, refl, sym, ap, ap₂, subst, _∙_}
 use mathlib.Core.List.{List, [], _∷_, _++_}
 use Prim.Native.Nat.{ℕ, suc, _+_, _/_, _%_, _<_, _≤_}
@@ -11,27 +11,27 @@ use Rattle.format.specs.Bytes.{bigEndian}
 use Rattle.format.proofs.Elements.{four-sets}
 use Rattle.storing.specs.Storing.{Stored}
 
--- two texts, one behind the other
+-- two texts, one after the other
 sets-append : (xs ys l : List ℕ) (i : ℕ) → sets l i (xs ++ ys) ≡ sets (sets l i xs) (i + length xs) ys
 sets-append [] ys l i = ap (λ (k : ℕ). sets l k ys) (sym (add-zero i))
 sets-append (x ∷ xs) ys l i =
     let e : suc i + length xs ≡ i + suc (length xs) = omega arith in
     sets-append xs ys (set l i x) (suc i) ∙ ap (λ (k : ℕ). sets (sets (set l i x) (suc i) xs) k ys) e
 
--- a byte behind a text may be stored before it
+-- a byte after a text may be stored before it
 sets-after : (xs l : List ℕ) (i k d : ℕ) → i + length xs ≤ k → sets (set l k d) i xs ≡ set (sets l i xs) k d
 sets-after [] l i k d h = refl
 sets-after (x ∷ xs) l i k d h =
     ap (λ (m : List ℕ). sets m (suc i) xs) (set-comm l k i d x (λ e. omega arith))
     ∙ sets-after xs (set l i x) (suc i) k d (omega arith)
 
--- a text and the byte behind it
+-- a text and the byte after it
 pub sets-last : (xs l : List ℕ) (i k d : ℕ) → i + length xs ≡ k → sets (set l k d) i xs ≡ sets l i (xs ++ (d ∷ []))
 sets-last xs l i k d e =
     sets-after xs l i k d (omega arith)
     ∙ sym (sets-append xs (d ∷ []) l i ∙ ap (λ (j : ℕ). set (sets l i xs) j d) e)
 
--- a text that was stored, and another behind it
+-- a text that was stored, and another after it
 pub stored-then : {old new last : List ℕ} {at next end : ℕ} {xs ys : List ℕ}
     → Stored old at xs new next → Stored new next ys last end → Stored old at (xs ++ ys) last end
 stored-then {old} {new} {last} {at} {next} {end} {xs} {ys} f g = record {
@@ -68,7 +68,7 @@ byte-stored l at x = record { bytes = refl; place = refl }
 
 -- ---- what was stored, cut out
 
--- a text stored from the start on stands behind nothing and before the bytes that were there
+-- a text stored from the start on stands after nothing and before the bytes that were there
 pub sets-front : (old line : List ℕ) → length line ≤ length old → sets old 0 line ≡ line ++ drop (length line) old
 sets-front old line h =
     let z : 0 + length line ≡ length line = zero-add (length line) in

@@ -1,4 +1,4 @@
-// Internal: bytes stored one behind another in a lent buffer. Each call asks for room, and gives the place behind what it
+// Internal: bytes stored one after another in a lent buffer. Each call asks for room, and gives the place after what it
 // stored.
 ghost use mathlib.Core.Path.{_≡_};
 ghost use mathlib.Core.List.{_∷_, []};

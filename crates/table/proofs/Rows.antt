@@ -1,4 +1,4 @@
--- The second pass: the part at p, its row, and what is left to store behind it.
+-- The second pass: the part at p, its row, and what is left to store after it.
 use mathlib.Core.Path.{_≡_, refl, sym, ap, ap₂, _∙_, subst}
 use mathlib.Core.Bool.{Bool, true, false, not, _&&_, _||_}
 use mathlib.Core.List.{List, [], _∷_}
@@ -9,7 +9,8 @@ use lib.Dec.{eqb}
 use lib.ListN.{length, drop, length-append, length-drop}
 use lib.Seq.{drop-at, drop-drop}
 use borrow.Author.Tests.{not-true}
-use Rattle.format.specs.Layout.{fits, write, least}
+use Rattle.format.specs.Layout.{fits, write}
+use Rattle.format.specs.Slots.{least}
 use Rattle.format.specs.Parts.{Kind, rule, information, sectionId, tag, isSubsection, sameKind, layout, Part, size, subsectionsLength, span, writeParts, joins}
 use Rattle.format.specs.Reading.{holdsSubs, madeLength}
 use Rattle.format.proofs.Finding.{and-split, every-kind, sameKind-eq}

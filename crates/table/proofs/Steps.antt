@@ -112,7 +112,7 @@ module _ {s t₀ t : List ℕ} {p e i owner n : ℕ} where
       let f = id-here s p (w .part) (w .behind) (w .at) (is-section w h) (omega (arith, w .four)) in
       omega (arith, f, id-byte (w .part .kind))
 
--- A stored row, of a part of m bytes, and what is left behind it.
+-- A stored row, of a part of m bytes, and what is left after it.
 row-stored : (t u x : List ℕ) (p n owner m : ℕ) (q : Part) (qs : List Part) (k l o : ℕ)
     → u ≡ sets t (4 * n) (k ∷ p ∷ l ∷ o ∷ []) → m ≡ size q → k ≡ kindNumber (q .kind) → l ≡ span q qs
     → o ≡ elim (isSubsection (q .kind)) as (λ b. ℕ) [ true ↦ owner | false ↦ n ]

@@ -24,7 +24,7 @@ pub record Fillable (s t : List ℕ) : Type 0 where
   pub read : reading true s ≡ found sections
   pub room : 4 * rowCount sections ≤ length t
 
--- the table then holds the rows, and behind them what it held
+-- the table then holds the rows, and after them what it held
 abbrev pub filled : List ℕ → List ℕ → List ℕ → Type 0
 filled s t u = (ss : List Section) → reading true s ≡ found ss → u ≡ sets t 0 (tableOf (rows (partsOf ss)))
 

@@ -1,4 +1,4 @@
-// Internal: words and numbers, stored one behind the other in a line. Each call gives the place after what it stored.
+// Internal: words and numbers, stored one after the other in a line. Each call gives the place after what it stored.
 ghost use mathlib.Core.Path.{_≡_};
 ghost use mathlib.Core.List.{_++_, _∷_, []};
 ghost use Prim.Native.Nat.{_+_, _<_, _≤_, max};
@@ -46,7 +46,7 @@ fn digit_places(n: u32, base: u32, width: usize) -> usize
     k
 }
 
-// A number in a base with at least `width` digits, from the place `at` on, and the byte `end` behind it.
+// A number in a base with at least `width` digits, from the place `at` on, and the byte `end` after it.
 pub fn put_number(line: &mut [u8], at: usize, n: u32, base: u32, width: usize, end: u8) -> usize
     requires { ⌜ (10 ≤ base) × (base ≤ 16) × (width ≤ 10) × (at + 11 ≤ length (now line)) ⌝ }
     ensures { λ r. ⌜ Stored (now (line .entry)) at (numeral base width n ++ (end ∷ [])) (now (line .exit)) r ⌝ }
@@ -64,7 +64,7 @@ pub fn put_number(line: &mut [u8], at: usize, n: u32, base: u32, width: usize, e
     e + 1
 }
 
-// The word for a token's id, and a space behind it.
+// The word for a token's id, and a space after it.
 pub fn put_id(line: &mut [u8], at: usize, id: u8) -> usize
     requires { ⌜ at + 9 ≤ length (now line) ⌝ }
     ensures { λ r. ⌜ Stored (now (line .entry)) at (idText id ++ (32 ∷ [])) (now (line .exit)) r ⌝ }
@@ -77,7 +77,7 @@ pub fn put_id(line: &mut [u8], at: usize, id: u8) -> usize
     }
 }
 
-// A tag in four digits, - for a section, and a space behind it.
+// A tag in four digits, - for a section, and a space after it.
 pub fn put_tag(line: &mut [u8], at: usize, tag: u32) -> usize
     requires { ⌜ at + 11 ≤ length (now line) ⌝ }
     ensures { λ r. ⌜ Stored (now (line .entry)) at (tagText tag ++ (32 ∷ [])) (now (line .exit)) r ⌝ }

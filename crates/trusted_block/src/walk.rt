@@ -2,7 +2,7 @@
 ghost use mathlib.Core.Path.{_≡_};
 ghost use Rattle.format.specs.Views.{stepAt};
 ghost use Rattle.format.specs.GivenNumbers.{stepNumber, rowAnswer, stepSecond, rowKind, rowOffset, rowLength, rowOwner, nextOf};
-ghost use Rattle.walker.specs.Walking.{stepBehind};
+ghost use Rattle.walker.specs.Walking.{stepAfter};
 use host_numbers::steps::give_row;
 use host_numbers::steps::give_step;
 use lookup::step;
@@ -51,13 +51,13 @@ pub extern "C" fn tb_row(
     owner: &mut u32,
     next: &mut u32,
 ) -> u32
-    ensures number { λ r. ⌜ r ≡ rowAnswer (stepBehind (now (token .entry)) 8 row) ⌝ }
-    ensures second { λ _. ⌜ now (second .exit) ≡ stepSecond (stepBehind (now (token .entry)) 8 row) ⌝ }
-    ensures kind { λ _. ⌜ now (kind .exit) ≡ rowKind (stepBehind (now (token .entry)) 8 row) ⌝ }
-    ensures offset { λ _. ⌜ now (offset .exit) ≡ rowOffset (stepBehind (now (token .entry)) 8 row) ⌝ }
-    ensures length { λ _. ⌜ now (length .exit) ≡ rowLength (stepBehind (now (token .entry)) 8 row) ⌝ }
-    ensures owner { λ _. ⌜ now (owner .exit) ≡ rowOwner (stepBehind (now (token .entry)) 8 row) ⌝ }
-    ensures next { λ _. ⌜ now (next .exit) ≡ nextOf (stepBehind (now (token .entry)) 8 row) ⌝ }
+    ensures number { λ r. ⌜ r ≡ rowAnswer (stepAfter (now (token .entry)) 8 row) ⌝ }
+    ensures second { λ _. ⌜ now (second .exit) ≡ stepSecond (stepAfter (now (token .entry)) 8 row) ⌝ }
+    ensures kind { λ _. ⌜ now (kind .exit) ≡ rowKind (stepAfter (now (token .entry)) 8 row) ⌝ }
+    ensures offset { λ _. ⌜ now (offset .exit) ≡ rowOffset (stepAfter (now (token .entry)) 8 row) ⌝ }
+    ensures length { λ _. ⌜ now (length .exit) ≡ rowLength (stepAfter (now (token .entry)) 8 row) ⌝ }
+    ensures owner { λ _. ⌜ now (owner .exit) ≡ rowOwner (stepAfter (now (token .entry)) 8 row) ⌝ }
+    ensures next { λ _. ⌜ now (next .exit) ≡ nextOf (stepAfter (now (token .entry)) 8 row) ⌝ }
 {
     give_row(
         nth_step(token, row),

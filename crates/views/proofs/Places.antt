@@ -1,4 +1,4 @@
--- Going over the parts of an accepted token: where it starts, the part at a place, its row, and the place behind it.
+-- Going over the parts of an accepted token: where it starts, the part at a place, its row, and the place after it.
 use mathlib.Core.Path.{_≡_, sym, ap, ap₂, _∙_}
 use mathlib.Core.Bool.{true, false}
 use mathlib.Core.List.{List, [], _∷_}
@@ -101,9 +101,9 @@ module _ {s : List ℕ} {p : Place} where
       same-row p q qs (omega (arith, i, t)) (stated-here s (p .at) q qs (there q qs y) e)
       (sym (is-true (isSubsection (q .kind)) (p .owner) (p .row) f))
 
-  -- ---- the place behind
+  -- ---- the place after
 
-  -- Behind a section: it ends where its length says, and is in the row that was next.
+  -- After a section: it ends where its length says, and is in the row that was next.
   pub section-behind : {l m : ℕ} → p .at ≡ p .end → l ≡ number (bytesAt s (p .at + 2) 2) → m ≡ ownLength (getD s (p .at) 0) l
       → Behind s p (record { at = p .at + m; end = p .at + l; id = getD s (p .at) 0; row = p .row + 1; owner = p .row })
   section-behind {l} {m} h e d q qs y =
@@ -131,7 +131,7 @@ module _ {s : List ℕ} {p : Place} where
         owner = sym (is-false (isSubsection (q .kind)) (p .owner) (p .row) f);
       }
 
-  -- Behind a subsection: the section goes on.
+  -- After a subsection: the section goes on.
   pub sub-behind : {l : ℕ} → (p .at ≡ p .end → ⊥) → l ≡ number (bytesAt s (p .at + 2) 2)
       → Behind s p (record { at = p .at + l; end = p .end; id = p .id; row = p .row + 1; owner = p .owner })
   sub-behind {l} h e q qs y =
@@ -161,4 +161,4 @@ module _ {s : List ℕ} {p : Place} where
   pub standing : {k : ℕ} (q : Part) (qs : List Part) → Left s p (q ∷ qs) → k ≡ kindNumber (q .kind) → Standing s (p .at) k
   standing q qs y e =
       let a = there q qs y in
-      record { kind = q .kind; told = e; short = y .short; inside = omega (arith, a .ends, a .made) }
+      record { kind = q .kind; asAnswer = e; short = y .short; inside = omega (arith, a .ends, a .made) }

@@ -61,7 +61,7 @@ module _ {s : List ℕ} {row : ℕ} {p : Place} {j : ℕ} where
   pub seek-begins : Seeking s row p j → p .at < length s → Begins s p
   seek-begins w h = begins (w .parts) (w .left) h
 
-  -- It stands behind this part.
+  -- It stands after this part.
   pub seek-on : {r : Place} → Seeking s row p j → p .at < length s → (j ≡ 0 → ⊥) → Behind s p r → Seeking s row r (j - 1)
   seek-on {r} w h k b = go (w .parts) (w .left) (w .same)
     where

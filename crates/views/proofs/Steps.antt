@@ -77,7 +77,7 @@ module _ {s : List ℕ} {at : ℕ} {p : Place} where
   pub step-there : Stepping s at p → p .at ≡ at → (at ≡ length s → ⊥) → Begins s p
   step-there w h k = begins (w .parts) (w .left) (omega (arith, w .within))
 
-  -- Behind this part.
+  -- After this part.
   pub step-on : {r : Place} → Stepping s at p → p .at < at → Behind s p r → Stepping s at r
   step-on {r} w h b = go (w .parts) (w .left) (w .same)
     where

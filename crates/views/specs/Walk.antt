@@ -53,7 +53,7 @@ rowOf p q qs = record { kind = kindNumber (q .kind); offset = p .at; length = sp
 abbrev pub RowAt : List ℕ → Place → Row → Type 0
 RowAt s p r = (q : Part) (qs : List Part) → Left s p (q ∷ qs) → r ≡ rowOf p q qs
 
--- the place behind the part at the place
+-- the place after the part at the place
 pub record Next (s : List ℕ) (p r : Place) (q : Part) (qs : List Part) : Type 0 where
   pub left : Left s r qs
   pub at : r .at ≡ p .at + size q

@@ -55,7 +55,7 @@ fn row_at(s: &[u8], p: Place) -> Row
     }
 }
 
-// The place behind the part at this one.
+// The place after the part at this one.
 fn behind(s: &[u8], p: Place) -> Place
     requires { ⌜ Begins (now s) p ⌝ }
     ensures { λ r. ⌜ Behind (now (s .entry)) p r ⌝ }

@@ -44,7 +44,7 @@ module _ {M : Type 1} (𝓤 : URA M) (H : Heap 𝓤) (A : Atoms 𝓤) (at-mem : 
   Next = tripleOf 𝓤 H A nexts.signature (nexts.spec 𝓤 H A at-mem run)
 
   module _ (W : Given 𝓤 H A) (κ : Lft) (q : Share) (b : ℕ) where
-    -- the reader's type, as `next` has it behind the reference
+    -- the reader's type, as `next` has it after the reference
     abbrev R : RattleType
     R = T.the-row (record { mir = named 1; lft = κ })
 

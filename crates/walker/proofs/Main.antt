@@ -16,19 +16,19 @@ use Rattle.format.specs.Views.{stepAt, placeAfter}
 use Rattle.format.specs.declared.Step.{Step}
 use Rattle.format.specs.declared.Step.the-variants.{Record, End, Stopped}
 use Rattle.format.proofs.Walking.{walk-legal, first-place, step-next, step-at-row, step-at-end, step-refused}
-use Rattle.walker.specs.Walking.{stepBehind}
+use Rattle.walker.specs.Walking.{stepAfter, Followed}
 use Rattle.walker.specs.declared.Walker.{Walker}
 use Rattle.format.specs.Claims.{IsRow, walkPlace}
 
 -- ---- the places that the steps lead to
 
--- The step behind n steps is the one at the place that they lead to.
-behind-at : (bs : List ℕ) (at n : ℕ) → stepBehind bs at n ≡ stepAt bs (walkPlace n bs at)
-unfolding stepBehind
+-- The step after n steps is the one at the place that they lead to.
+behind-at : (bs : List ℕ) (at n : ℕ) → stepAfter bs at n ≡ stepAt bs (walkPlace n bs at)
+unfolding stepAfter
 behind-at bs at zero = refl
 behind-at bs at (suc n) = behind-at bs (placeAfter at (stepAt bs at)) n
 
--- The last of n + 1 steps is the one behind the first n.
+-- The last of n + 1 steps is the one after the first n.
 place-last : (bs : List ℕ) (at n : ℕ) → walkPlace (suc n) bs at ≡ placeAfter (walkPlace n bs at) (stepAt bs (walkPlace n bs at))
 place-last bs at zero = refl
 place-last bs at (suc n) = place-last bs (placeAfter at (stepAt bs at)) n
@@ -49,31 +49,23 @@ place-of-row bs l (suc k) y f =
     ∙ ap (λ (a : ℕ). placeAfter a (stepAt bs a)) p
     ∙ ap (placeAfter (b .0 .row .offset)) (step-next bs l k (b .0) y (b .1) f)
 
--- ---- the steps behind one another
+-- ---- the steps after one another
 
--- Behind as many steps as there are rows before it comes each row of a legal token, with the place where its part ends.
+-- After as many steps as there are rows before it comes each row of a legal token, with the place where its part ends.
 pub behind-row : (bs : List ℕ) (l : Legal bs) (k : ℕ) (x : Placed) → IsRow bs l k x
-    → stepBehind bs 8 k ≡ Record (x .row) (x .row .offset + size (x .part))
+    → stepAfter bs 8 k ≡ Record (x .row) (x .row .offset + size (x .part))
 behind-row bs l k x e = behind-at bs 8 k ∙ ap (stepAt bs) (place-of-row bs l k x e) ∙ step-at-row bs l k x e
 
--- Behind all rows comes the end, and it stays.
-pub behind-all : (bs : List ℕ) (l : Legal bs) (k : ℕ) → length (l .parts) ≤ k → stepBehind bs 8 k ≡ End
+-- After all rows comes the end, and it stays.
+pub behind-all : (bs : List ℕ) (l : Legal bs) (k : ℕ) → length (l .parts) ≤ k → stepAfter bs 8 k ≡ End
 behind-all bs l k h = behind-at bs 8 k ∙ ap (stepAt bs) (walk-legal bs l k h .1) ∙ step-at-end bs l
 
 -- An illegal token gives the reading's refusal at once, and it stays.
 pub behind-refused : (bs : List ℕ) (f : Fault) (k : ℕ) → reading true bs ≡ refused f
-    → stepBehind bs 8 k ≡ Stopped (f .number) (f .part)
+    → stepAfter bs 8 k ≡ Stopped (f .number) (f .part)
 behind-refused bs f k e = behind-at bs 8 k ∙ step-refused bs f (walkPlace k bs 8) e
 
 -- ---- the reader of held bytes
-
--- A reader as `start` makes it of a token, and as each call of `next` leaves it, with the steps that the calls give.
-abbrev pub Followed : RefT (List ℕ) → (ℕ → Walker) → (ℕ → Step) → Type 0
-Followed token w s =
-    ((w 0 .token ≡ token) × (w 0 .place ≡ 8))
-    × ((k : ℕ)
-    → (s k ≡ stepAt (now (w k .token)) (w k .place))
-    × ((w (suc k) .token ≡ w k .token) × (w (suc k) .place ≡ placeAfter (w k .place) (s k))))
 
 -- The reader keeps the token, and its place is the one that the steps lead to.
 kept : (token : RefT (List ℕ)) (w : ℕ → Walker) (s : ℕ → Step) → Followed token w s → (k : ℕ)
@@ -88,7 +80,7 @@ kept token w s f (suc k) =
 
 -- "The same records in the same order": the reader's step k is the walk's, which is what `nth_step` gives.
 pub same-steps : (token : RefT (List ℕ)) (w : ℕ → Walker) (s : ℕ → Step) → Followed token w s → (k : ℕ)
-    → s k ≡ stepBehind (now token) 8 k
+    → s k ≡ stepAfter (now token) 8 k
 same-steps token w s f k =
     let i = kept token w s f k in
     f .1 k .0

@@ -1,19 +1,21 @@
 -- Following the steps of a token from a place.
-use mathlib.Core.Bool.{Bool, false}
+use mathlib.Core.Path.{_≡_}
 use mathlib.Core.List.{List}
 use Prim.Native.Nat.{ℕ, zero, suc}
-use lib.Dec.{ltb}
+use denote.Ref.{RefT, now}
 use Rattle.format.specs.Views.{stepAt, placeAfter}
 use Rattle.format.specs.declared.Step.{Step}
-use Rattle.format.specs.declared.Step.the-variants.{Record, End, Stopped}
+use Rattle.walker.specs.declared.Walker.{Walker}
 
--- the step behind n steps from a place, each taken where the one before leads
-unfoldable pub stepBehind : List ℕ → ℕ → ℕ → Step
-stepBehind bs at zero = stepAt bs at
-stepBehind bs at (suc n) = stepBehind bs (placeAfter at (stepAt bs at)) n
+-- the step after n steps from a place, each taken where the one before leads
+unfoldable pub stepAfter : List ℕ → ℕ → ℕ → Step
+stepAfter bs at zero = stepAt bs at
+stepAfter bs at (suc n) = stepAfter bs (placeAfter at (stepAt bs at)) n
 
--- whether the walk goes on behind a step: it is a row, and more are left
-unfoldable pub goesOn : Step → ℕ → Bool
-goesOn (Record r n) left = ltb 0 left
-goesOn End left = false
-goesOn (Stopped n p) left = false
+-- a reader as `start` makes it of a token, and as each call of `next` leaves it, with the steps that the calls give
+abbrev pub Followed : RefT (List ℕ) → (ℕ → Walker) → (ℕ → Step) → Type 0
+Followed token w s =
+    ((w 0 .token ≡ token) × (w 0 .place ≡ 8))
+    × ((k : ℕ)
+    → (s k ≡ stepAt (now (w k .token)) (w k .place))
+    × ((w (suc k) .token ≡ w k .token) × (w (suc k) .place ≡ placeAfter (w k .place) (s k))))

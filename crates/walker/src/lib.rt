@@ -1,7 +1,8 @@
 // The reader that keeps hold of a token's bytes and its place in them. Any bytes may be walked.
 ghost use mathlib.Core.Path.{_≡_};
 ghost use Rattle.format.specs.Views.{stepAt, placeAfter};
-ghost use Rattle.walker.specs.Walking.{stepBehind, goesOn};
+ghost use Rattle.walker.specs.Walking.{stepAfter};
+ghost use Rattle.walker.specs.Turns.{goesOn};
 use format::Step;
 
 pub struct Walker<'a> {
@@ -37,7 +38,7 @@ pub fn next<'s, 'a>(w: &'s mut Walker<'a>) -> Step
     s
 }
 
-// Whether the walk goes on behind a step: the step is a row, and more are asked for.
+// Whether the walk goes on after a step: the step is a row, and more are asked for.
 fn goes_on(s: Step, left: u32) -> bool
     ensures { λ r. ⌜ r ≡ goesOn s left ⌝ }
 {
@@ -47,9 +48,9 @@ fn goes_on(s: Step, left: u32) -> bool
     0 < left
 }
 
-// The step behind n steps from the first row's place, by the reader: row n, or what stopped the walk before it.
+// The step after n steps from the first row's place, by the reader: row n, or what stopped the walk before it.
 pub fn nth_step(token: &[u8], n: u32) -> Step
-    ensures { λ r. ⌜ r ≡ stepBehind (now (token .entry)) 8 n ⌝ }
+    ensures { λ r. ⌜ r ≡ stepAfter (now (token .entry)) 8 n ⌝ }
 {
     let mut w = start(token);
     let mut left = n;

@@ -18,7 +18,7 @@ use Rattle.drafts.proofs.StoredParts.{one-stored, stored-last, subsection-store
 use Rattle.export_writer.proofs.export_parameters.Statement.{statement}
 use Rattle.export_writer.proofs.export_parameters.Tie as tie
 
--- behind the tests a byte can state each length
+-- after the tests a byte can state each length
 lengths : (c : tie.Else2)
     → let a = c .before .before .before .before .before .args in
     (length (a .variant .now) ≤ 255) × (length (a .vector .now) ≤ 255)

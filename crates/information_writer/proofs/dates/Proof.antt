@@ -17,7 +17,7 @@ use Rattle.drafts.proofs.StoredParts.{stored-last, subsection-stored}
 use Rattle.information_writer.proofs.dates.Statement.{statement}
 use Rattle.information_writer.proofs.dates.Tie as tie
 
--- behind the tests both dates have their length
+-- after the tests both dates have their length
 lengths : (c : tie.Else2)
     → (length (c .before .before .before .before .before .args .activation .now) ≡ 4)
     × (length (c .before .before .before .before .before .args .expiration .now) ≡ 4)

@@ -17,7 +17,7 @@ use Rattle.drafts.proofs.StoredParts.{stored-last, subsection-stored}
 use Rattle.information_writer.proofs.protection.Statement.{statement}
 use Rattle.information_writer.proofs.protection.Tie as tie
 
--- behind the tests each field has its length
+-- after the tests each field has its length
 lengths : (c : tie.Else3)
     → let a = c .before .before .before .before .before .before .before .args in
     (length (a .mac-key .now) ≡ 32) × (length (a .mac .now) ≡ 8) × (length (a .mkvp .now) ≡ 16)

@@ -1,4 +1,4 @@
--- A count behind a field: in one byte, in two, or as before.
+-- A count after a field: in one byte, in two, or as before.
 use mathlib.Core.Path.{_≡_}
 use Prim.Native.Nat.{_+_, _<_}
 use native.Mathlib.Omega.{arith}

@@ -1,4 +1,4 @@
--- `put_first`: the words and numbers of the line, one behind the other. Assumes nothing.
+-- `put_first`: the words and numbers of the line, one after the other. Assumes nothing.
 use mathlib.Core.Path.{sym, ap, _∙_}
 use borrow.Author.Needs.{needs}
 use Rattle.format.specs.Lines.{text, firstLine}

@@ -1,4 +1,4 @@
--- `put_row`: the columns of the row, one behind the other. Assumes nothing.
+-- `put_row`: the columns of the row, one after the other. Assumes nothing.
 use mathlib.Core.Path.{sym}
 use native.Mathlib.Omega.{arith}
 use borrow.Author.Needs.{needs}

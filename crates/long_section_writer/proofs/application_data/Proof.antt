@@ -1,4 +1,4 @@
--- `application_data`: a count and its bytes behind the section's head, added to the draft.
+-- `application_data`: a count and its bytes after the section's head, added to the draft.
 use mathlib.Core.Path.{_≡_, refl, sym, ap}
 use mathlib.Core.List.{[], _∷_, _++_, append-nil}
 use Prim.Native.Nat.{_+_}

@@ -1,4 +1,4 @@
--- `public_key`: the counts, the bits of the modulus, exponent, modulus and flags behind the section's head, added to the
+-- `public_key`: the counts, the bits of the modulus, exponent, modulus and flags after the section's head, added to the
 -- draft.
 use mathlib.Core.Path.{_≡_, refl, sym}
 use mathlib.Core.Bool.{true}

@@ -2,7 +2,7 @@
 use mathlib.Core.Path.{sym, ap, _∙_}
 use mathlib.Core.Bool.{true}
 use native.Mathlib.Omega.{arith}
-use Rattle.format.specs.Rules.{external}
+use Rattle.format.specs.Parts.{external}
 use Rattle.format.specs.Reading.{answer}
 use Rattle.contents.specs.Progress.{sectionsAnswer}
 use Rattle.contents.proofs.Headers.{id-first, header-stops, header-lengths, whole-length, whole-goes}

@@ -1,4 +1,4 @@
--- `information`: two bytes 0 and the flags behind the section's head, added to the draft.
+-- `information`: two bytes 0 and the flags after the section's head, added to the draft.
 use mathlib.Core.Path.{_≡_, refl, sym}
 use native.Mathlib.Omega.{arith}
 use lib.Seq.{length-take-le}

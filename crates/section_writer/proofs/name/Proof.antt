@@ -1,4 +1,4 @@
--- `name`: 64 bytes behind the section's head, added to the draft.
+-- `name`: 64 bytes after the section's head, added to the draft.
 use mathlib.Core.Path.{_≡_, refl, sym}
 use mathlib.Core.Bool.{true}
 use mathlib.Core.List.{[], _∷_}

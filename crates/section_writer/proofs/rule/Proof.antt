@@ -1,4 +1,4 @@
--- `rule`: an id, flags and four single bytes behind the section's head, added to the draft.
+-- `rule`: an id, flags and four single bytes after the section's head, added to the draft.
 use mathlib.Core.Path.{_≡_, refl, sym}
 use mathlib.Core.Bool.{true}
 use native.Mathlib.Omega.{arith}

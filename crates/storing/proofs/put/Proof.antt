@@ -1,4 +1,4 @@
--- The loop of `put`: the bytes that are left, stored behind those that are, give the whole text. Assumes nothing.
+-- The loop of `put`: the bytes that are left, stored after those that are, give the whole text. Assumes nothing.
 use mathlib.Core.Path.{_≡_, refl, sym, ap, _∙_}
 use Prim.Native.Nat.{ℕ, _+_, _-_, _≤_}
 use native.Mathlib.Omega.{arith}

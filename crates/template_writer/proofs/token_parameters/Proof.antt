@@ -18,7 +18,7 @@ use Rattle.drafts.proofs.StoredParts.{one-stored, stored-last, subsection-store
 use Rattle.template_writer.proofs.token_parameters.Statement.{statement}
 use Rattle.template_writer.proofs.token_parameters.Tie as tie
 
--- behind the tests a byte can state each length, and the template is as long as the mask
+-- after the tests a byte can state each length, and the template is as long as the mask
 lengths : (c : tie.Else3)
     → let a = c .before .before .before .before .before .before .before .args in
     (length (a .mask .now) ≤ 255)

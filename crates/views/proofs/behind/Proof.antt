@@ -1,4 +1,4 @@
--- The place behind a section, or a subsection.
+-- The place after a section, or a subsection.
 use native.Mathlib.Omega.{arith}
 use Rattle.views.proofs.Places.{four, section-behind, sub-behind}
 use borrow.Author.Needs.{needs}

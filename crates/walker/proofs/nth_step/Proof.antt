@@ -1,5 +1,5 @@
 -- `nth_step` meets its contract: a walk of its MIR, by hand, with a loop. The reader that `start` makes is held in a local, which is lent to `next` once before the loop and once in each turn (`proofs/Lending.antt`).
--- The invariant: the reader holds the bytes passed, its last step is the one at a place p, its own place is the one behind that step, and what is left of the walk from p is the whole walk.
+-- The invariant: the reader holds the bytes passed, its last step is the one at a place p, its own place is the one after that step, and what is left of the walk from p is the whole walk.
 -- All that the proof knows of `start`, `next` and `goes_on` is that each meets its contract. Assumes nothing.
 use mathlib.Core.Path.{_≡_, refl, sym, ap, subst, _∙_}
 use Prim.Native.Nat.{ℕ, _<_, _≤_, _^_, _-_}
@@ -47,7 +47,8 @@ use Rattle.format.specs.Views.{stepAt, placeAfter}
 use Rattle.format.specs.declared.Step.{Step}
 use Rattle.format.proofs.Step as S
 use Rattle.format.proofs.Step.Laws as S′
-use Rattle.walker.specs.Walking.{stepBehind, goesOn}
+use Rattle.walker.specs.Walking.{stepAfter}
+use Rattle.walker.specs.Turns.{goesOn}
 use Rattle.walker.specs.declared.Walker.{Walker}
 use Rattle.walker.proofs.Walker as T
 use Rattle.walker.proofs.Walker.Laws as T′
@@ -160,7 +161,7 @@ module _ {M : Type 1} (𝓤 : URA M) (H : Heap 𝓤) (A : Atoms 𝓤) (W : Given
   NextSays d d′ t = (t ≡ stepAt (now (d .token)) (d .place)) × ((d′ .token ≡ d .token) × (d′ .place ≡ placeAfter (d .place) t))
 
   -- ---- the exit
-  exits : (t : Step) (u : Val) → Is S.the-row t (u ∷ []) → t ≡ stepBehind (now s) 8 k → ent 𝓤 (⋆ 𝓤 H A (‵ (flft κ q) ∷ ‵ OwnS ∷ [])) (Post u)
+  exits : (t : Step) (u : Val) → Is S.the-row t (u ∷ []) → t ≡ stepAfter (now s) 8 k → ent 𝓤 (⋆ 𝓤 H A (‵ (flft κ q) ∷ ‵ OwnS ∷ [])) (Post u)
   exits t u is e =
       qed W (‵ (flft κ q) ∷ ‵ OwnS ∷ []) ∵
       suffices ! _ (ends-at 𝓤 H A nth-step.ended stayed (nth-step.clauses 𝓤 H A mem run) W (((κ, tt), (q, tt), tt, args, vals), tt) u t (tt, (tt, tt)) (tt, (tt, tt))) $ says ! e $
@@ -169,7 +170,7 @@ module _ {M : Type 1} (𝓤 : URA M) (H : Heap 𝓤) (A : Atoms 𝓤) (W : Given
 
   -- ---- the loop: the reader, the place of its last step, the step with its machine value, and how many steps are left
   abbrev Fact : Walker → ℕ → Step → Val → ℕ → Type 0
-  Fact d p t u n = (d .token ≡ s) × ((t ≡ stepAt (now s) p) × ((d .place ≡ placeAfter p t) × ((stepBehind (now s) p n ≡ stepBehind (now s) 8 k) × ((n < 2 ^ 32) × Is S.the-row t (u ∷ [])))))
+  Fact d p t u n = (d .token ≡ s) × ((t ≡ stepAt (now s) p) × ((d .place ≡ placeAfter p t) × ((stepAfter (now s) p n ≡ stepAfter (now s) 8 k) × ((n < 2 ^ 32) × Is S.the-row t (u ∷ [])))))
 
   abbrev State : Type 0
   State = (d : Walker) × ((p : ℕ) × ((t : Step) × ((u : Val) × ((n : ℕ) × Fact d p t u n))))
@@ -211,7 +212,7 @@ module _ {M : Type 1} (𝓤 : URA M) (H : Heap 𝓤) (A : Atoms 𝓤) (W : Given
     ),
   )
 
-  -- the state behind another step
+  -- the state after another step
   abbrev follows : (x : State) (d′ : Walker) (t : Step) (u : Val) → 0 < left x → NextSays (x .0) d′ t → Is S.the-row t (u ∷ []) → State
   follows x d′ t u h f is = (
     d′,

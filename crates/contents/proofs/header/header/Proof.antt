@@ -3,7 +3,7 @@ use mathlib.Core.Path.{sym, ap, _∙_}
 use native.Mathlib.Omega.{arith}
 use lib.ListN.{length}
 use borrow.Author.Tests.{le-leb, lt-leb, not-true, not-false}
-use Rattle.format.specs.Legal.{knownId}
+use Rattle.format.specs.Parts.{knownId}
 use Rattle.sections.proofs.Laws.{stop, pass, none, zero-yes, zero-not, byte-number}
 use Rattle.contents.proofs.Headers.{id-first}
 use borrow.Author.Needs.{needs}

@@ -2,7 +2,8 @@
 use mathlib.Core.Path.{refl, sym, ap, _∙_}
 use native.Mathlib.Omega.{arith}
 use lib.ListN.{getD}
-use Rattle.format.specs.Parts.{publicKey, name, information, applicationData, sectionKind}
+use Rattle.format.specs.Parts.{publicKey, name, information, applicationData}
+use Rattle.format.specs.Reading.{sectionKind}
 use Rattle.sections.proofs.Laws.{byte-number}
 use Rattle.sections.proofs.Subs.{at-here}
 use Rattle.contents.proofs.Steps.{unknown-here}

@@ -1,4 +1,4 @@
--- `section_head`: an id, 0 and a length, one behind the other. Assumes nothing.
+-- `section_head`: an id, 0 and a length, one after the other. Assumes nothing.
 use borrow.Author.Needs.{needs}
 use Rattle.storing.proofs.Stores.{stored-then}
 use Rattle.drafts.proofs.heads.section_head.Statement.{statement}

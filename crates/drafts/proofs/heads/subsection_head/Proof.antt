@@ -1,4 +1,4 @@
--- `subsection_head`: tag, length and version, one behind the other. Assumes nothing.
+-- `subsection_head`: tag, length and version, one after the other. Assumes nothing.
 use borrow.Author.Needs.{needs}
 use Rattle.storing.proofs.Stores.{stored-then}
 use Rattle.drafts.proofs.heads.subsection_head.Statement.{statement}

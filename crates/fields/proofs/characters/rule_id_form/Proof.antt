@@ -1,4 +1,4 @@
--- A Rule ID: the run of its characters is not empty, and the run of spaces behind it ends at the end. Assumes nothing.
+-- A Rule ID: the run of its characters is not empty, and the run of spaces after it ends at the end. Assumes nothing.
 use mathlib.Core.Path.{sym}
 use Rattle.format.specs.Forms.{inRuleId, ruleIdForm}
 use Rattle.fields.proofs.Runs.{padded-none, padded-run}

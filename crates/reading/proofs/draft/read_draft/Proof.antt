@@ -5,7 +5,7 @@ use Prim.Native.Nat.{ℕ}
 use native.Mathlib.Omega.{arith}
 use lib.ListN.{take}
 use lib.Seq.{length-take-le}
-use Rattle.format.specs.Rules.{external}
+use Rattle.format.specs.Parts.{external}
 use Rattle.contents.specs.Progress.{sectionsAnswer}
 use Rattle.contents.proofs.Headers.{id-first, header-stops, header-lengths, header-goes}
 use borrow.Author.Needs.{needs}

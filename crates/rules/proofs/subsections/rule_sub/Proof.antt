@@ -3,7 +3,8 @@ use mathlib.Core.Logic.{⊎-elim}
 use mathlib.Core.Path.{refl, sym, _∙_, ap}
 use lib.ListN.{drop}
 use borrow.Author.Needs.{needs}
-use Rattle.format.specs.Parts.{rule, transportVariant, transportRule, exportParameters, sourceRule, tokenParameters, subsectionKind}
+use Rattle.format.specs.Parts.{rule, transportVariant, transportRule, exportParameters, sourceRule, tokenParameters}
+use Rattle.format.specs.Reading.{subsectionKind}
 use Rattle.sections.proofs.Subs.{sub-short, sub-unknown, at-here}
 use Rattle.rules.proofs.Turns.{tag-five, tag-past, rule-known}
 use Rattle.rules.proofs.subsections.rule_sub.Statement.{statement}

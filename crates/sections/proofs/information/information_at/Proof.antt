@@ -1,8 +1,8 @@
 -- Section 14: its head, its fields, then its subsections.
 use Rattle.sections.proofs.Heads.{section-stops, section-goes, head-room}
 use Rattle.sections.specs.Refusals.{sectionRows}
-use Rattle.format.specs.Reading.{fieldChecks, told}
-use Rattle.format.specs.Parts.{information, sectionKind}
+use Rattle.format.specs.Reading.{fieldChecks, asAnswer, sectionKind}
+use Rattle.format.specs.Parts.{information}
 use Rattle.sections.specs.Refusals.{headChecks}
 use Rattle.sections.proofs.Laws.{pass, none, head-stop, head-pass, number-at}
 use Rattle.format.specs.Bytes.{number, bytesAt}
@@ -95,7 +95,7 @@ returns-3 c =
     let g = section-goes full x information before s p (c .before .before .before .before .before .before .before .pre .0) k a refl
     (head-pass (headChecks 10 seen r) _ refl (c .before .before .before .before .before .section-head .ensures) (c .before .before .before .before .if1 .left)
     (pass _ _ refl (head-pass (fieldChecks x information r) _ refl (c .before .before .before .information-fields .ensures x) (c .before .before .if2 .left) (pass _ _ refl none)))) in
-    c .information-subs .ensures ∙ sym (ap (told sectionRows) g)
+    c .information-subs .ensures ∙ sym (ap (asAnswer sectionRows) g)
 
 pub information-at-spec : {M : Type 1} → statement M
 information-at-spec =
