@@ -1,6 +1,6 @@
 -- The draft's own fault, and where an addition goes on after it. Assumes nothing.
 use mathlib.Core.Path.{_≡_, refl, sym, ap, ap₂, _∙_}
-use mathlib.Core.Bool.{false, _&&_}
+use mathlib.Core.Bool.{Bool, true, false, _&&_}
 use mathlib.Core.List.{List}
 use mathlib.Core.Logic.{inl}
 use Prim.Native.Nat.{ℕ, _+_, _<_, _≤_}
@@ -11,7 +11,7 @@ use lib.ListN.{length, getD, drop, length-drop}
 use lib.Seq.{getD-drop}
 use borrow.Author.Tests.{leb-true}
 use Rattle.format.specs.Rules.{Section}
-use Rattle.format.specs.Reading.{Fault, Outcome, refused, found, fault, andThen, asAnswer, idOf, stated, headerChecks, reading, rowCount}
+use Rattle.format.specs.Reading.{Fault, Outcome, refused, found, fault, need, andThen, asAnswer, idOf, stated, headerChecks, reading, rowCount}
 use Rattle.format.specs.Writer.{writeAnswer, draftAfter}
 use Rattle.format.specs.declared.Answer.{Answer}
 use Rattle.format.specs.declared.Answer.the-variants.{Accepted, Refused}
@@ -19,7 +19,7 @@ use Rattle.format.proofs.Accepted.{allowed}
 use Rattle.format.proofs.Finding.{and-split}
 use Rattle.format.proofs.Numbers.{number-one}
 use Rattle.format.proofs.Tests.{tests-passed, needed, followed, then-found, then-refused}
-use Rattle.drafts.specs.Adding.{Reads, Standing, grown, appended, refusedAfter, ownFirst, unfit}
+use Rattle.drafts.specs.Adding.{Reads, Standing, ReadsWhenLate, grown, appended, refusedAfter, ownFirst, unfit}
 use Rattle.drafts.proofs.Outcomes.{RefusedBy, told-refused, told-found, refused-written, same-written}
 
 -- ---- the draft's own reading
@@ -125,6 +125,32 @@ appended-passed d o w bs e =
     let n = needed (leb (stated d + length w) 3500 && leb (stated d + length w) (length d)) _ _ bs e in
     let f = followed (reading false (grown d o w)) _ bs (n .1) in
     (leb-true (stated d + length w) 3500 (and-split (leb (stated d + length w) 3500) (leb (stated d + length w) (length d)) (n .0) .0), (f .0, f .1))
+
+-- A refusal of appending with any number but 23 is the longer draft's, at its place.
+pub appended-refused : {n p : ℕ} (d : List ℕ) (o : ℕ) (w : List ℕ) → Refused n p ≡ writeAnswer (appended d o w) → (n ≡ 23 → ⊥)
+    → (stated d + length w ≤ 3500) × ((f : Fault) × ((reading false (grown d o w) ≡ refused f) × (p ≡ f .part)))
+unfolding appended need andThen asAnswer
+appended-refused {n} {p} d o w a other = go (leb (stated d + length w) 3500) (leb (stated d + length w) (length d)) (reading false (grown d o w)) refl refl a
+  where
+    go : (u v : Bool) (r : Outcome (List Section)) → leb (stated d + length w) 3500 ≡ u → reading false (grown d o w) ≡ r
+        → Refused n p ≡ writeAnswer (need (u && v) (fault 23 (stated d) 0) (andThen r (λ ts. found (grown d o w))))
+        → (stated d + length w ≤ 3500) × ((f : Fault) × ((reading false (grown d o w) ≡ refused f) × (p ≡ f .part)))
+    go true true (refused f) e q y = (leb-true (stated d + length w) 3500 e, (f, (q, cc)))
+    go true true (found ts) e q y = absurd (let z : _≡_ {A = ℕ} 0 1 = cc in omega arith)
+    go true false r e q y = absurd (other cc)
+    go false v r e q y = absurd (other cc)
+
+-- Where it comes so late that the draft reads, it is the answer.
+pub own-late : {n p e : ℕ} {new : List ℕ} (d : List ℕ) (o : ℕ) (w : List ℕ) → ReadsWhenLate d o w e → (n ≡ 23 → ⊥) → e ≤ p
+    → Refused n p ≡ writeAnswer (appended d o w) → new ≡ draftAfter (appended d o w) d
+    → (Refused n p ≡ writeAnswer (ownFirst d (appended d o w))) × (new ≡ draftAfter (ownFirst d (appended d o w)) d)
+unfolding ownFirst
+own-late {n} {p} d o w late other h a s =
+    let f = appended-refused d o w a other in
+    let c = f .1 .1 .1 in
+    let r = late (f .1 .0) (f .0) (f .1 .1 .0) (omega arith) in
+    let t = told-refused length (appended d o w) a in
+    same-written d (t .is ∙ sym (then-found _ (r .1)) ∙ sym (ap (ownFirst d) (t .is))) a s
 
 -- the id of the section at a place is the byte there
 pub id-at : (d : List ℕ) (o : ℕ) → o < length d → idOf (drop o d) ≡ getD d o 0

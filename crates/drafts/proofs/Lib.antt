@@ -10,6 +10,7 @@ pub mod Adding
 pub mod Joining
 pub mod Additions
 pub mod Longer
+pub mod Refusals
 pub mod InPlace
 pub mod Outcomes
 pub mod Calls

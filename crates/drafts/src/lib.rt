@@ -10,7 +10,7 @@ ghost use Rattle.format.specs.Bytes.{Bytes};
 ghost use Rattle.format.specs.Reading.{stated, headerChecks};
 ghost use Rattle.format.proofs.Tests.{Hold};
 ghost use Rattle.format.specs.Writer.{writeAnswer, draftAfter};
-ghost use Rattle.drafts.specs.Adding.{Standing, unfit, refusedAfter, ownFirst, appended, sectionAdded, subsectionAdded, holdsSubsections, fixedFields};
+ghost use Rattle.drafts.specs.Adding.{Standing, ReadsWhenLate, unfit, refusedAfter, ownFirst, appended, sectionAdded, subsectionAdded, holdsSubsections, fixedFields};
 ghost use Rattle.drafts.specs.Tiling.{LastAt};
 use crate::growing::append;
 use crate::last::Last;
@@ -42,21 +42,31 @@ pub fn not_fitting(draft: &[u8]) -> Answer
     }
 }
 
-// Puts a part after the draft, whose own fault comes before any other refusal.
-fn append_or_fault(draft: &mut [u8], section: usize, part: &mut [u8]) -> Answer
-    requires { ⌜ Standing (now draft) section ⌝ }
+// Puts a part after the draft, whose own fault comes before any other refusal. Where the longer draft is refused at `end` or
+// after it, the draft is known to read, and is not read again.
+fn append_or_fault(draft: &mut [u8], section: usize, part: &mut [u8], end: usize) -> Answer
+    requires { ⌜ Standing (now draft) section × ReadsWhenLate (now draft) section (now part) end ⌝ }
     ensures answer { λ r. ⌜ r ≡ writeAnswer (ownFirst (now (draft .entry)) (appended (now (draft .entry)) section (now (part .entry)))) ⌝ }
     ensures draft { λ _. ⌜ now (draft .exit) ≡ draftAfter (ownFirst (now (draft .entry)) (appended (now (draft .entry)) section (now (part .entry)))) (now (draft .entry)) ⌝ }
 {
     let a = append(draft, section, part);
     match a {
-        Answer::Refused(number, place) => own_fault_or(draft, number, place),
+        Answer::Refused(number, place) => {
+            if number == 23 {
+                return own_fault_or(draft, number, place);
+            }
+            if (place as usize) < end {
+                return own_fault_or(draft, number, place);
+            }
+            Answer::Refused(number, place)
+        }
         Answer::Accepted(n) => Answer::Accepted(n),
     }
 }
 
-// Adds the bytes of a section. Where the draft's sections end where it does, and the longer draft reads, the draft reads
-// too: then only the longer one is read. Where they do not, the draft does not read, and its reading gives its fault.
+// Adds the bytes of a section. Where the draft's sections end where it does, and the longer draft reads or is refused no
+// earlier than at the added section, the draft reads: then only the longer one is read. Where they do not, the draft does not
+// read, and its reading gives its fault.
 pub fn add_section(draft: &mut [u8], part: &mut [u8]) -> Answer
     ensures answer { λ r. ⌜ r ≡ writeAnswer (sectionAdded (now (draft .entry)) (now (part .entry))) ⌝ }
     ensures draft { λ _. ⌜ now (draft .exit) ≡ draftAfter (sectionAdded (now (draft .entry)) (now (part .entry))) (now (draft .entry)) ⌝ }
@@ -66,7 +76,8 @@ pub fn add_section(draft: &mut [u8], part: &mut [u8]) -> Answer
     if let Last::Broken = last {
         return read_draft(draft);
     }
-    append_or_fault(draft, 0, part)
+    let n = two(draft, 2);
+    append_or_fault(draft, 0, part, n)
 }
 
 // The bytes of the fixed fields of a section that has subsections.
@@ -79,8 +90,9 @@ fn fixed_fields(id: u8) -> usize
     10
 }
 
-// Adds the bytes of a subsection to the section at a place, the last one, where it has the given id. What is said of the
-// draft's sections above is true of this one's subsections too.
+// Adds the bytes of a subsection to the section at a place, the last one, where it has the given id. Where its subsections
+// end where it does too, and the longer draft reads, the draft reads. A refusal does not tell it, at whatever place: 18 is
+// tested after the last subsection.
 fn add_behind(draft: &mut [u8], id: u8, place: usize, part: &mut [u8]) -> Answer
     requires { ⌜ (holdsSubsections id ≡ true) × Hold (headerChecks false (now draft)) × LastAt (take (stated (now draft)) (now draft)) 8 place ⌝ }
     ensures answer { λ r. ⌜ r ≡ writeAnswer (subsectionAdded id (now (draft .entry)) (now (part .entry))) ⌝ }
@@ -98,7 +110,7 @@ fn add_behind(draft: &mut [u8], id: u8, place: usize, part: &mut [u8]) -> Answer
     if let Last::Broken = last {
         return read_draft(draft);
     }
-    append_or_fault(draft, place, part)
+    append_or_fault(draft, place, part, 3501)
 }
 
 // Adds the bytes of a subsection to the last section, which is to have the given id.

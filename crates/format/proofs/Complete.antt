@@ -70,7 +70,7 @@ sub-found x o before at n p r z g new ends small e =
     let f = part-fits k (size p) (p .fields) small (g .part .fit) in
     let i = part-read p (size p) r z f e in
     let framed : Framed true (sectionId k) (tag k) (size p) r = subst (λ (y : Bool). Framed y (sectionId k) (tag k) (size p) r) (g .sub) (i .0) in
-    let asAnswer : subsectionKind o (number (bytesAt r 0 2)) ≡ some k =
+    let told : subsectionKind o (number (bytesAt r 0 2)) ≡ some k =
     ap (subsectionKind o) (framed .0) ∙ subsectionKind-told o k (g .sub) (g .owner) in
     let long : stated r ≡ size p = framed .2 in
     let lo = least-le (layout k) (size p) [] (p .fields) f in
@@ -91,7 +91,7 @@ sub-found x o before at n p r z g new ends small e =
       ),
     ) in
     need-passed (leb 4 n) (fault 12 at 0) _ (le-leb 4 n (omega arith))
-    ∙ ap (λ (m : Option Kind). elim m as (λ y. Outcome Part) [ none ↦ refused (fault 13 at 0) | some j ↦ tested at (subsectionChecks x j (has j before) n r) (found (partIn j r)) ]) asAnswer
+    ∙ ap (λ (m : Option Kind). elim m as (λ y. Outcome Part) [ none ↦ refused (fault 13 at 0) | some j ↦ tested at (subsectionChecks x j (has j before) n r) (found (partIn j r)) ]) told
     ∙ tests-lead at (subsectionChecks x k (has k before) n r) (found (partIn k r)) hold
     ∙ ap {B = Outcome Part} found (i .2)
 
@@ -224,7 +224,7 @@ made-whole x k [] m n t f g a b = or-right (holdsSubs k) _ (eq-eqb m t (omega ar
 made-whole x k (u ∷ us) m n t f g a b = or-left _ _ (owner-holds (u .kind) k (g .0 .sub) (g .0 .owner) f)
 
 -- A section that is written, keeps its rules and may stand after the earlier ones is found.
-section-found : (full x : Bool) (before : List Section) (at : ℕ) (s : Section) (r z : List ℕ) → GoodSection full x s
+pub section-found : (full x : Bool) (before : List Section) (at : ℕ) (s : Section) (r z : List ℕ) → GoodSection full x s
     → All (λ b. mayBothStand b s ≡ true) before → length (writeParts (s .head ∷ s .subs)) < 256 ^ 2
     → r ≡ writeParts (s .head ∷ s .subs) ++ z
     → (section full x before at r ≡ found s) × (stated r ≡ length (writeParts (s .head ∷ s .subs)))
@@ -243,7 +243,7 @@ section-found full x before at s r z g new small e =
     let f = part-fits k t (p .fields) (omega arith) (g .part .fit) in
     let i = part-read p t r (writeParts us ++ z) f form in
     let framed : Framed false (sectionId k) (tag k) t r = subst (λ (y : Bool). Framed y (sectionId k) (tag k) t r) (g .head) (i .0) in
-    let asAnswer : sectionKind (idOf r) ≡ some k = ap sectionKind (framed .0) ∙ sectionKind-told k (g .head) in
+    let told : sectionKind (idOf r) ≡ some k = ap sectionKind (framed .0) ∙ sectionKind-told k (g .head) in
     let st : stated r ≡ t = framed .2 in
     let lo = least-le (layout k) t [] (p .fields) f in
     let lr : length r ≡ length a + length (writeParts us ++ z) = ap length form ∙ length-append a (writeParts us ++ z) in
@@ -270,7 +270,7 @@ section-found full x before at s r z g new small e =
     let subs = ap₂ (λ (n : ℕ) (y : List ℕ). subsections (suc (stated r)) x k [] (at + madeLength k r) n y) left rest
     ∙ subs-found (suc (stated r)) x k [] (at + madeLength k r) us z (omega arith) (omega arith) (g .subs) (g .tags) in (
       need-passed (leb 4 (length r)) (fault 6 at 0) _ (le-leb 4 (length r) (let q = size-pos p in omega arith))
-          ∙ ap (λ (m : Option Kind). elim m as (λ y. Outcome Section) [ none ↦ refused (fault 7 at 0) | some j ↦ tested at (sectionChecks x j (kindBefore j before) (ruleBefore (partIn j r) before) r) (sectionRest full x j at r) ]) asAnswer
+          ∙ ap (λ (m : Option Kind). elim m as (λ y. Outcome Section) [ none ↦ refused (fault 7 at 0) | some j ↦ tested at (sectionChecks x j (kindBefore j before) (ruleBefore (partIn j r) before) r) (sectionRest full x j at r) ]) told
           ∙ tests-lead at (sectionChecks x k (kindBefore k before) (ruleBefore (partIn k r) before) r) _ hold
           ∙ then-found _ subs
           ∙ ap (λ (q : Part). afterSubsections full at (at + madeLength k r) (record { head = q; subs = us })) (i .2)

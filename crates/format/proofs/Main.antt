@@ -221,14 +221,15 @@ draft-never-20 d f e = Numbering.draft-not-20 d f e
 pub own-fault-first : (k : Kind) (fs : Fields) (d : List ℕ) (f : Fault) → reading false d ≡ refused f → addition k fs d ≡ refused f
 own-fault-first k fs d f e = Refusing.own-fault-first k fs d f e
 
-pub then-24-25-23 : (k : Kind) (fs : Fields) (d : List ℕ) (ss : List Section) → reading false d ≡ found ss
-    → (fits [] (layout k) fs ≡ false → addition k fs d ≡ refused (fault 24 (stated d) 0))
-    × (fits [] (layout k) fs ≡ true → joins 0 (partsOf ss ++ record { kind = k; fields = fs } ∷ []) ≡ false
-    → addition k fs d ≡ refused (fault 25 (stated d) 0))
-    × (fits [] (layout k) fs ≡ true → joins 0 (partsOf ss ++ record { kind = k; fields = fs } ∷ []) ≡ true
-    → (leb (stated d + size (record { kind = k; fields = fs })) 3500 && leb (stated d + size (record { kind = k; fields = fs })) (length d)) ≡ false
-    → addition k fs d ≡ refused (fault 23 (stated d) 0))
-then-24-25-23 k fs d ss e = (Refusing.lengths-first k fs d ss e, Refusing.joining-next k fs d ss e, Refusing.room-last k fs d ss e)
+pub then-24-25-23 : (p : Part) (d : List ℕ) (ss : List Section) → reading false d ≡ found ss
+    → (fits [] (layout (p .kind)) (p .fields) ≡ false → addition (p .kind) (p .fields) d ≡ refused (fault 24 (stated d) 0))
+    × (fits [] (layout (p .kind)) (p .fields) ≡ true → joins 0 (partsOf ss ++ p ∷ []) ≡ false
+    → addition (p .kind) (p .fields) d ≡ refused (fault 25 (stated d) 0))
+    × (fits [] (layout (p .kind)) (p .fields) ≡ true → joins 0 (partsOf ss ++ p ∷ []) ≡ true
+    → (leb (stated d + size p) 3500 && leb (stated d + size p) (length d)) ≡ false
+    → addition (p .kind) (p .fields) d ≡ refused (fault 23 (stated d) 0))
+then-24-25-23 p d ss e =
+    (Refusing.lengths-first (p .kind) (p .fields) d ss e, Refusing.joining-next (p .kind) (p .fields) d ss e, Refusing.room-last (p .kind) (p .fields) d ss e)
 
 -- "Adding the parts of any legal token in their order, to a draft newly started with its identifier and with room, gives
 -- back its very bytes."

@@ -1,8 +1,9 @@
 -- A part that is read reaches no further than its counts make it, and parts in a row no further than their sizes.
 use mathlib.Core.Bool.{Bool, true, false}
 use mathlib.Core.List.{List, [], _∷_, _++_}
-use mathlib.Core.Path.{_≡_, refl}
-use Prim.Native.Nat.{ℕ, _+_, _≤_}
+use mathlib.Core.Path.{_≡_, refl, sym, _∙_}
+use mathlib.Core.Logic.{_⊎_, inl, inr, ⊎-elim}
+use Prim.Native.Nat.{ℕ, _+_, _≤_, _<_}
 use native.Mathlib.Omega.{arith}
 use lib.Dec.{leb}
 use lib.ListN.{length, getD, length-append, length-take, length-replicate}
@@ -10,8 +11,9 @@ use borrow.Author.Tests.{leb-true}
 use Rattle.format.specs.Bytes.{number, bytesAt}
 use Rattle.format.specs.Layout.{Item, code, zeros, own, count, fixed, counted, write}
 use Rattle.format.specs.Slots.{least, slots, fieldsIn, endOf}
-use Rattle.format.proofs.Unique.{size-any}
-use Rattle.format.specs.Parts.{Kind, sectionId, tag, body, isSubsection, layout, sameKind, Part, size, span, writeParts}
+use Rattle.format.proofs.Unique.{size-any, size-pos}
+use Rattle.format.specs.Parts.{Kind, tokenParameters, sectionId, tag, body, isSubsection, layout, sameKind, Part, size, span, writeParts}
+use Rattle.format.specs.Rules.{ofKind, maskCovers}
 use Rattle.format.specs.Reading.{madeLength, partIn, placeOf}
 use Rattle.format.proofs.Numbers.{bigEndian-length}
 use Rattle.format.proofs.Finding.{every-kind}
@@ -66,15 +68,27 @@ pub sizes-last : (ps : List Part) (p : Part) → sizes (ps ++ p ∷ []) ≡ size
 sizes-last [] p = omega arith
 sizes-last (q ∷ ps) p = let i = sizes-last ps p in omega arith
 
--- The place of a subsection lies within the bytes of the subsections.
-pub place-le : (k : Kind) (at : ℕ) (ps : List Part) → placeOf k at ps ≤ at + sizes ps
-place-le k at [] = omega arith
-place-le k at (p ∷ ps) = go (sameKind k (p .kind)) (place-le k (at + size p) ps)
+-- The place of the first subsection of a kind lies before their end, or there is none.
+place-before : (k : Kind) (at : ℕ) (ps : List Part) → (placeOf k at ps < at + sizes ps) ⊎ (ofKind k ps ≡ [])
+place-before k at [] = inr refl
+place-before k at (p ∷ ps) = go (sameKind k (p .kind)) (place-before k (at + size p) ps)
   where
-    go : (b : Bool) → placeOf k (at + size p) ps ≤ at + size p + sizes ps
-        → elim b as (λ c. ℕ) [ true ↦ at | false ↦ placeOf k (at + size p) ps ] ≤ at + (size p + sizes ps)
-    go true i = omega arith
-    go false i = omega arith
+    go : (b : Bool) → (placeOf k (at + size p) ps < at + size p + sizes ps) ⊎ (ofKind k ps ≡ [])
+        → (elim b as (λ c. ℕ) [ true ↦ at | false ↦ placeOf k (at + size p) ps ] < at + (size p + sizes ps))
+        ⊎ (_≡_ {A = List Part} (elim b as (λ c. List Part) [ true ↦ p ∷ ofKind k ps | false ↦ ofKind k ps ]) [])
+    go true i = inl (let q = size-pos p in omega arith)
+    go false i = ⊎-elim (λ h. inl (omega arith)) (λ h. inr h) i
+
+-- Without a 0005 no mask is asked.
+pub mask-none : (us : List Part) → ofKind tokenParameters us ≡ [] → maskCovers us ≡ true
+mask-none us e = rw e
+
+-- 18 is given at a 0005 that is there.
+pub mask-before : (first : ℕ) (us : List Part) → maskCovers us ≡ false → placeOf tokenParameters first us < first + sizes us
+mask-before first us e = ⊎-elim (λ h. h) (λ h. absurd (let z : _≡_ {A = ℕ} 0 1 = clash (sym (mask-none us h) ∙ e) in omega arith)) (place-before tokenParameters first us)
+  where
+    clash : true ≡ false → _≡_ {A = ℕ} 0 1
+    clash q = cc
 
 -- Every kind has bytes of its own.
 pub least-pos : (k : Kind) → 1 ≤ least (layout k)

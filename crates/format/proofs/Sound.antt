@@ -231,12 +231,12 @@ new-rule s (b ∷ before) q e =
         ∙ last (sameKind rule (b .head .kind)) (sameRuleId (b .head) (s .head)) t m
 
 -- What an accepted section says.
-record SectionRead (full x : Bool) (before : List Section) (r : List ℕ) (s : Section) : Type 0 where
-  good : GoodSection full x s
-  new : All (λ b. mayBothStand b s ≡ true) before
-  least : 4 ≤ stated r
-  ends : stated r ≤ length r
-  form : writeParts (s .head ∷ s .subs) ++ drop (stated r) r ≡ r
+pub record SectionRead (full x : Bool) (before : List Section) (r : List ℕ) (s : Section) : Type 0 where
+  pub good : GoodSection full x s
+  pub new : All (λ b. mayBothStand b s ≡ true) before
+  pub least : 4 ≤ stated r
+  pub ends : stated r ≤ length r
+  pub form : writeParts (s .head ∷ s .subs) ++ drop (stated r) r ≡ r
 
 -- A section that has subsections is as long, without them, as its plain number.
 pub fixed-made : (k : Kind) (r : List ℕ) → holdsSubs k ≡ true → madeLength k r ≡ least (layout k)
@@ -340,7 +340,7 @@ section-known full x k before at r s q h b e =
       form = section-bytes k us r (id .0) (subs-of x k us (su .0 .0)) ml ends sz (pw .1) (su .1);
     })
 
-section-read : (full x : Bool) (before : List Section) (at : ℕ) (r : List ℕ) (s : Section) → Bytes r
+pub section-read : (full x : Bool) (before : List Section) (at : ℕ) (r : List ℕ) (s : Section) → Bytes r
     → section full x before at r ≡ found s → SectionRead full x before r s
 unfolding section
 section-read full x before at r s b e =

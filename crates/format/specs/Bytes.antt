@@ -1,4 +1,9 @@
 -- Lists of bytes, and big-endian numbers over any width.
+--
+-- How to read these files: `abbrev` and `unfoldable` do not change what a definition says. `elim e [ p ↦ a | .. ]` is a choice
+-- by cases, `as (λ x. T)` only gives its type. `r .f` is a record's field, `p .0` and `p .1` are a pair's parts, and
+-- `(x : A) × B` says that there is an x with B. `getD l k d` is element k of l, from 0, or d where there is none. A
+-- difference of numbers stops at 0.
 use mathlib.Core.Bool.{Bool, true, false, _&&_}
 use mathlib.Core.List.{List, [], _∷_, _++_}
 use Prim.Native.Nat.{ℕ, zero, suc, _+_, _*_, _/_, _%_, _<_}

@@ -10,11 +10,11 @@ use Rattle.format.specs.Bytes.{bigEndian}
 -- a field of a layout, with its length in bytes
 pub data Item : Type 0 where
   code : ℕ → ℕ → Item  -- w bytes that hold the number v: an id or a tag
-  zeros : ℕ → ℕ → Item  -- n bytes that are always 0, and the refusal where they are not (read of a kind's body only)
+  zeros : ℕ → ℕ → Item  -- n bytes that are always 0, and the refusal where they are not (used in `body` only; Reading names it for `frame` and `header`)
   own : ℕ → Item  -- w bytes: 01's `length`, that of the whole part
-  count : ℕ → ℕ → Item  -- w bytes: one of 01's x, y, n, c, m, z: the length of the chosen field that comes after k others from here
+  count : ℕ → ℕ → Item  -- w bytes: one of 01's x, y, n, c, m, z: the length of a later chosen field, with k chosen fields between (section 11: x is `count 2 1`, the bits between)
   fixed : ℕ → Item  -- a chosen field of n bytes
-  counted : ℕ → Item  -- a chosen field whose length the part's count number s states, counts numbered from 0
+  counted : ℕ → Item  -- a chosen field whose length the part's count number s states, counts numbered from 0 (section 11: `counted 0` goes by x, `counted 1` by y)
 
 -- the chosen fields of a part, in order: all but ids, tags, lengths, counts and what is always 0
 abbrev pub Fields : Type 0

@@ -58,32 +58,32 @@ tag protection = 1
 tag dates = 2
 tag applicationData = 0
 
--- the fields after id, version and length, or tag, length and version
+-- the fields after id, version and length, or tag, length and version, which are fields 0 to 2
 abbrev pub body : Kind → List Item
--- 11: reserved, x, modulus bits, y, exponent, modulus, flags
+-- 11: 3 reserved, 4 x, 5 modulus bits, 6 y, 7 exponent, 8 modulus, 9 flags
 body publicKey = zeros 2 10 ∷ count 2 1 ∷ fixed 2 ∷ count 2 1 ∷ counted 0 ∷ counted 1 ∷ fixed 4 ∷ []
--- 12: Rule ID, flags, generated length, key-check, symmetric format, asymmetric format
+-- 12: 3 Rule ID, 4 flags, 5 generated length, 6 key-check, 7 symmetric format, 8 asymmetric format
 body rule = fixed 8 ∷ fixed 4 ∷ fixed 1 ∷ fixed 1 ∷ fixed 1 ∷ fixed 1 ∷ []
--- 12/0001: reserved, n, variant
+-- 12/0001: 3 reserved, 4 n, 5 variant
 body transportVariant = zeros 2 10 ∷ count 1 0 ∷ counted 0 ∷ []
--- 12/0002: reserved, Rule ID
+-- 12/0002: 3 reserved, 4 Rule ID
 body transportRule = zeros 1 10 ∷ fixed 8 ∷ []
--- 12/0003: reserved, flags, minimum, maximum, x, variant, c, CV
+-- 12/0003: 3 reserved, 4 flags, 5 minimum, 6 maximum, 7 x, 8 variant, 9 c, 10 CV
 body exportParameters =
     zeros 2 10 ∷ zeros 1 11 ∷ fixed 1 ∷ fixed 1 ∷ count 1 0 ∷ counted 0 ∷ count 1 0 ∷ counted 1 ∷ []
--- 12/0004: reserved, Rule ID
+-- 12/0004: 3 reserved, 4 Rule ID
 body sourceRule = zeros 1 10 ∷ fixed 8 ∷ []
--- 12/0005: reserved, flags, m, mask, template, z, label template
+-- 12/0005: 3 reserved, 4 flags, 5 m, 6 mask, 7 template, 8 z, 9 label template
 body tokenParameters = zeros 2 10 ∷ zeros 1 11 ∷ count 1 0 ∷ counted 0 ∷ counted 0 ∷ count 1 0 ∷ counted 1 ∷ []
--- 13: name
+-- 13: 3 name
 body name = fixed 64 ∷ []
--- 14: reserved, flags
+-- 14: 3 reserved, 4 flags
 body information = zeros 2 10 ∷ fixed 4 ∷ []
--- 14/0001: reserved, encrypted MAC key, MAC, MKVP
+-- 14/0001: 3 reserved, 4 encrypted MAC key, 5 MAC, 6 MKVP
 body protection = zeros 1 10 ∷ fixed 32 ∷ fixed 8 ∷ fixed 16 ∷ []
--- 14/0002: reserved, flags, activation, expiration
+-- 14/0002: 3 reserved, 4 flags, 5 activation, 6 expiration
 body dates = zeros 1 10 ∷ fixed 2 ∷ fixed 4 ∷ fixed 4 ∷ []
--- 15: x, data
+-- 15: 3 x, 4 data
 body applicationData = count 2 0 ∷ counted 0 ∷ []
 
 abbrev pub isSubsection : Kind → Bool

@@ -1,5 +1,9 @@
 -- The answer for any bytes: the first fault in 01's order, or the parts that were read. One definition serves a token
 -- and a draft, which is read under all rules but those of refusal 20.
+--
+-- In what follows `full` says that a token is read, and no draft; x that it is external; `at` is the place of the part, r the
+-- bytes from there to the end of the token or draft, past the part too; n the bytes that are left of the section; `before`
+-- what was read before; d the turns, which are always enough: the clause without a turn is never reached (Main `every-refusal`).
 use mathlib.Core.Bool.{Bool, true, false, not, _&&_, _||_}
 use mathlib.Core.List.{List, [], _∷_, _++_}
 use mathlib.Core.Option.{Option, none, some}

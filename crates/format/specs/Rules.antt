@@ -66,18 +66,10 @@ labelLength f = eqb (length f) 0 || eqb (length f) 64
 abbrev pub patternAllowed : Bool → List ℕ → Bool
 patternAllowed x f = not x || allZero f
 
--- the rules of the dates, with the field's number: both exist, activation is not after expiration, whatever the flags
-abbrev pub dateRules : List ℕ → List ℕ → List ℕ → List Check
-dateRules flags activation expiration =
-    check 5 19 (dateExists activation)
-    ∷ check 6 19 (dateExists expiration)
-    ∷ check 6 19 (inOrder activation expiration)
-    ∷ []
-
 -- the rules on the fields of a kind, in the order in which they are tested; x says that the token is external. A check
--- names its field by its number in the layout; f are the chosen fields, named over each kind, the first of them 0
+-- names its field by its number in the layout (Parts `body`); f are the chosen fields, named and numbered over each kind
 abbrev pub checks : Bool → Kind → Fields → List Check
--- f: modulus bits, exponent, modulus, flags; x is field 4, y field 6
+-- f: 0 modulus bits, 1 exponent, 2 modulus, 3 flags
 checks x publicKey f =
     check 4 16 (exponentLength (getD f 1 []))
     ∷ check 5 16 (modulusBits (number (getD f 0 [])))
@@ -86,7 +78,7 @@ checks x publicKey f =
     ∷ check 7 16 (exponentForm (getD f 1 []) (getD f 2 []))
     ∷ check 9 11 (keyFlags (getD f 3 []))
     ∷ []
--- f: Rule ID, flags, generated length, key-check, symmetric format, asymmetric format
+-- f: 0 Rule ID, 1 flags, 2 generated length, 3 key-check, 4 symmetric format, 5 asymmetric format
 checks x rule f =
     check 3 17 (ruleIdForm (getD f 0 []))
     ∷ check 4 11 (zeroOrOne (getD f 1 []))
@@ -95,11 +87,11 @@ checks x rule f =
     ∷ check 7 11 (symmetricFormat (getD f 1 []) (getD f 4 []))
     ∷ check 8 11 (zeroToTwo (getD f 5 []))
     ∷ []
--- f: variant
+-- f: 0 variant
 checks x transportVariant f = []
--- f: Rule ID
+-- f: 0 Rule ID
 checks x transportRule f = check 4 17 (ruleIdForm (getD f 0 [])) ∷ []
--- f: minimum, maximum, variant, CV; x is field 7, c field 9
+-- f: 0 minimum, 1 maximum, 2 variant, 3 CV
 checks x exportParameters f =
     check 5 18 (keyLength (number (getD f 0 [])))
     ∷ check 6 18 (keyLength (number (getD f 1 [])))
@@ -107,23 +99,28 @@ checks x exportParameters f =
     ∷ check 7 18 (variantLength (getD f 1 []) (getD f 2 []))
     ∷ check 9 18 (controlLength (getD f 3 []))
     ∷ []
--- f: Rule ID
+-- f: 0 Rule ID
 checks x sourceRule f = check 4 17 (ruleIdForm (getD f 0 [])) ∷ []
--- f: mask, template, label template; m is field 5, z field 8
+-- f: 0 mask, 1 template, 2 label template
 checks x tokenParameters f =
     check 5 18 (controlLength (getD f 0 []))
     ∷ check 8 18 (labelLength (getD f 2 []))
     ∷ check 9 17 (eqb (length (getD f 2 [])) 0 || labelForm (getD f 2 []))
     ∷ []
--- f: name
+-- f: 0 name
 checks x name f = []
--- f: flags
+-- f: 0 flags
 checks x information f = check 4 11 (zeroOrOne (getD f 0 [])) ∷ []
--- f: encrypted MAC key, MAC, MKVP
+-- f: 0 encrypted MAC key, 1 MAC, 2 MKVP
 checks x protection f = check 6 21 (patternAllowed x (getD f 2 [])) ∷ []
--- f: flags, activation, expiration
-checks x dates f = check 4 11 (zeroOrOne (getD f 0 [])) ∷ dateRules (getD f 0 []) (getD f 1 []) (getD f 2 [])
--- f: data
+-- f: 0 flags, 1 activation, 2 expiration; both dates exist and are in order, whatever the flags
+checks x dates f =
+    check 4 11 (zeroOrOne (getD f 0 []))
+    ∷ check 5 19 (dateExists (getD f 1 []))
+    ∷ check 6 19 (dateExists (getD f 2 []))
+    ∷ check 6 19 (inOrder (getD f 1 []) (getD f 2 []))
+    ∷ []
+-- f: 0 data
 checks x applicationData f = []
 
 -- ---- the rules between parts

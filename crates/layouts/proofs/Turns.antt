@@ -33,7 +33,7 @@ next-element x xs (suc j) h e = ap (getElem? xs) (let z : suc j - 1 ≡ j = omeg
 same-kind : {s : List ℕ} {at n : ℕ} (w : Standing s at n) (p : Part) → n ≡ kindNumber (p .kind) → (field : ℕ)
     → getElem? (slots [] (layout (p .kind)) (drop at s) 0) field ≡ getElem? (slots [] (layout (w .kind)) (drop at s) 0) field
 same-kind {s} {at} w p q field =
-    ap (λ (k : Kind). getElem? (slots [] (layout k) (drop at s) 0) field) (number-told (p .kind) (w .kind) (sym q ∙ w .asAnswer))
+    ap (λ (k : Kind). getElem? (slots [] (layout k) (drop at s) 0) field) (number-told (p .kind) (w .kind) (sym q ∙ w .told))
 
 -- What is left begins with a field.
 pub record Field (s : List ℕ) (at kind field n o first second j : ℕ) : Type 0 where
@@ -150,7 +150,7 @@ starts {s} {at} {kind} {field} {n} w d =
         counts = [];
         offset = 0;
         place = omega arith;
-        digits = d k (w .asAnswer);
+        digits = d k (w .told);
         one = refl;
         two = refl;
         inside = omega (arith, w .inside, e);

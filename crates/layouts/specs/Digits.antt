@@ -78,7 +78,7 @@ CountBehind s o d one before r =
 -- a part of this kind stands at this place of a short token
 pub record Standing (s : List ℕ) (at n : ℕ) : Type 0 where
   pub kind : Kind
-  pub asAnswer : n ≡ kindNumber kind
+  pub told : n ≡ kindNumber kind
   pub short : length s ≤ 3500
   pub inside : at + madeLength kind (drop at s) ≤ length s
 

@@ -115,7 +115,7 @@ module _ (l : List ℕ) (k : ℕ) where
       let inside : i < length l = omega (arith, s .bound, r .kept .sized) in
       let here : getD (set l i k) i 0 ≡ k = getD-set-same l i k 0 inside in
       record {
-        asAnswer = sym (missing h (r .kept) s z);
+        told = sym (missing h (r .kept) s z);
         kept = record {
           sized = length-set l i k ∙ r .kept .sized;
           placed = λ x nz. ⊎-elim
@@ -153,7 +153,7 @@ module _ (l : List ℕ) (k : ℕ) where
   seen {i} r s z =
       let inside : i < length l = omega (arith, s .bound, r .kept .sized) in
       record {
-        asAnswer = sym (found k l i inside z);
+        told = sym (found k l i inside z);
         kept = r .kept;
         below = λ m big old x nz. let f = old x nz in omega arith;
         holds = λ x p. ⊎-elim

@@ -33,7 +33,7 @@ pub record Room (l : List ℕ) : Type 0 where
 
 -- the set with k put in; r says whether k was there
 pub record Put (old : List ℕ) (k : ℕ) (r : Bool) (new : List ℕ) : Type 0 where
-  pub asAnswer : r ≡ among k old
+  pub told : r ≡ among k old
   pub kept : Kept new
   pub below : (m : ℕ) → 512 ≤ m → Below m old → Below (m + 1) new
   pub holds : (x : ℕ) → 0 < x → among x new ≡ (eqb k x || among x old)

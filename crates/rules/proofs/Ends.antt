@@ -15,7 +15,7 @@ use Rattle.format.proofs.Tests.{then-found}
 use Rattle.format.proofs.Turns.{subsectionsFrom, subs-none}
 use Rattle.sections.specs.Refusals.{sectionRows}
 use Rattle.sections.proofs.Heads.{section-rest}
-use Rattle.sections.proofs.InformationLaws.{mask-none}
+use Rattle.format.proofs.Reaching.{mask-none}
 use Rattle.rules.specs.Loops.{ruleOf, standing, RuleRead}
 use Rattle.rules.proofs.Places.{here-one, standing-none}
 

@@ -121,12 +121,12 @@ module _ {s : List ℕ} {p e q n : ℕ} {places : List ℕ} (w : RuleRead s p e 
   read = sub-finds false rule (w .done) q (e - q) (drop q s) (f false) z
 
   -- The tag tells it.
-  asAnswer : subsectionKind rule g ≡ some (read .kind)
-  asAnswer = ap (subsectionKind rule) (l₂ ∙ sym (at-here s q 2)) ∙ read .asAnswer
+  told : subsectionKind rule g ≡ some (read .kind)
+  told = ap (subsectionKind rule) (l₂ ∙ sym (at-here s q 2)) ∙ read .told
 
   -- Its tag is the tag that was read.
   tag-told : tag (read .kind) ≡ g
-  tag-told = subsectionKind-sound rule g (read .kind) asAnswer .2
+  tag-told = subsectionKind-sound rule g (read .kind) told .2
 
   -- A tag that was read has its place among the six.
   pub tag-six : g < 6
@@ -139,7 +139,7 @@ module _ {s : List ℕ} {p e q n : ℕ} {places : List ℕ} (w : RuleRead s p e 
   -- It is the first of its kind, and its counts make the bytes that it states.
   new : (has (read .kind) (w .done) ≡ false) × (madeLength (read .kind) (drop q s) ≡ t)
   new =
-      let a = sub-new false rule (read .kind) (w .done) q (e - q) (drop q s) (read .asAnswer) (read .same) in
+      let a = sub-new false rule (read .kind) (w .done) q (e - q) (drop q s) (read .told) (read .same) in
       (a .0, a .1 ∙ ap number (at-drop s q 2 2) ∙ sym l)
 
   -- So it is as long.
@@ -159,11 +159,11 @@ module _ {s : List ℕ} {p e q n : ℕ} {places : List ℕ} (w : RuleRead s p e 
       let r = room .1 in
       ⊎-elim
       (λ d.
-      let same : j ≡ k = some-inj (sym o ∙ ap (subsectionKind rule) d ∙ asAnswer) in
+      let same : j ≡ k = some-inj (sym o ∙ ap (subsectionKind rule) d ∙ told) in
       let here : getD (set places g q) (tag j) 0 ≡ q = ap (λ (i : ℕ). getD (set places g q) i 0) d ∙ getD-set-same places g q 0 (omega (arith, w .six, tag-six)) in
       subst (λ (y : Kind). Once s (p + 20) (q + t) (w .done ++ u ∷ []) y (getD (set places g q) (tag j) 0)) (sym same)
       (subst (λ (i : ℕ). Once s (p + 20) (q + t) (w .done ++ u ∷ []) k i) (sym here)
-      (once-here t (w .once k (ap (subsectionKind rule) tag-told ∙ asAnswer)) (new .0) (omega arith) (omega (arith, new .1)))))
+      (once-here t (w .once k (ap (subsectionKind rule) tag-told ∙ told)) (new .0) (omega arith) (omega (arith, new .1)))))
       (λ d.
       subst (λ (i : ℕ). Once s (p + 20) (q + t) (w .done ++ u ∷ []) j i) (sym (getD-set-other places g (tag j) q 0 d))
       (once-other u (w .once j o) (other-tag j k (λ y. d (y ∙ tag-told))) long))
@@ -174,7 +174,7 @@ module _ {s : List ℕ} {p e q n : ℕ} {places : List ℕ} (w : RuleRead s p e 
       ≡ subsectionsFrom x rule [] (p + 20) (e - (p + 20)) (drop (p + 20) s)
   same-more x =
       let o = loop-on s x rule (w .done) q e h (f x) z l in
-      let k : o .kind ≡ read .kind = some-inj (sym (o .asAnswer) ∙ ap (subsectionKind rule) (sym l₂) ∙ asAnswer) in
+      let k : o .kind ≡ read .kind = some-inj (sym (o .told) ∙ ap (subsectionKind rule) (sym l₂) ∙ told) in
       ap (λ (y : Kind). subsectionsFrom x rule (w .done ++ partIn y (drop q s) ∷ []) (q + t) (e - (q + t)) (drop (q + t) s)) (sym k)
       ∙ o .same
       ∙ w .same x

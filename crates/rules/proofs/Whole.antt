@@ -60,7 +60,7 @@ key-told s {p} {before} {old} {v = v} w put eight l pos e =
     rule-key (partIn rule (drop p s)) before eight (w .eight)
     ∙ sym (w .holds (number (bytesAt (drop p s) 4 8)) (omega arith))
     ∙ ap (λ (k : ℕ). among k old) (sym same)
-    ∙ sym (put .asAnswer)
+    ∙ sym (put .told)
     ∙ e
 
 -- ---- the answer

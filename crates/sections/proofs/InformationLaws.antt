@@ -12,6 +12,7 @@ use Rattle.format.specs.Parts.{Kind, information, protection, dates, tokenParam
 use Rattle.format.specs.Reading.{subsectionKind, found, fault, need, andThen, asAnswer, stated, partIn, afterSubsections, sectionRest}
 use Rattle.format.specs.Rules.{has, ofKind, maskCovers}
 use Rattle.format.specs.declared.Answer.the-variants.{Accepted, Refused}
+use Rattle.format.proofs.Reaching.{mask-none}
 use Rattle.format.proofs.Tests.{then-found, need-passed}
 use Rattle.format.proofs.Turns.{subsectionsFrom, subs-none}
 use Rattle.sections.specs.Refusals.{sectionRows}
@@ -77,10 +78,6 @@ pub information-rest : (full x : Bool) (s : List ℕ) (p e : ℕ) → p + 10 ≤
     ≡ andThen (subsectionsFrom x information [] (p + 10) (e - (p + 10)) (drop (p + 10) s))
     (λ us. afterSubsections full p (p + 10) (record { head = partIn information (drop p s); subs = us }))
 information-rest full x s p e h l = section-rest full x information s p e h l
-
--- Where no 0005 is, 0005 and 0003 stand in no relation.
-pub mask-none : (us : List Part) → ofKind tokenParameters us ≡ [] → maskCovers us ≡ true
-mask-none us e = rw e
 
 -- The end of section 14: its 0001 is required.
 information-closed : (full : Bool) (at first : ℕ) (r : List ℕ) (us : List Part) → ofKind tokenParameters us ≡ []

@@ -96,14 +96,14 @@ module _ (x : Bool) (o : Kind) (before : List Part) (at n : ℕ) (r : List ℕ) 
   sub-stops : {m : ℕ} → m ≡ subRefusal x o before n r → (m ≡ 0 → ⊥) → RefusedAs (subsection x o before at n r) m at
   unfolding subsection subRefusal by-kind by-number
   sub-stops e h =
-      let asAnswer : Option Kind = subsectionKind o (number (bytesAt r 0 2)) in
+      let told : Option Kind = subsectionKind o (number (bytesAt r 0 2)) in
       subst (λ (y : ℕ). RefusedAs (subsection x o before at n r) y at) (sym e)
-      (stop-test (leb 4 n) 12 at 0 (by-number asAnswer) (by-kind asAnswer) (λ k. kind-stops asAnswer k) (λ z. h (e ∙ z)))
+      (stop-test (leb 4 n) 12 at 0 (by-number told) (by-kind told) (λ k. kind-stops told k) (λ z. h (e ∙ z)))
 
   -- One without a number is found, as the kind that its tag tells.
   pub record FoundAs : Type 0 where
     pub kind : Kind
-    pub asAnswer : subsectionKind o (number (bytesAt r 0 2)) ≡ some kind
+    pub told : subsectionKind o (number (bytesAt r 0 2)) ≡ some kind
     pub same : subsection x o before at n r ≡ found (partIn kind r)
 
   find-kind : (b : Bool) (m : Option Kind) → leb 4 n ≡ b → subsectionKind o (number (bytesAt r 0 2)) ≡ m
@@ -113,7 +113,7 @@ module _ (x : Bool) (o : Kind) (before : List Part) (at n : ℕ) (r : List ℕ) 
   find-kind true none q w e = absurd (omega arith)
   find-kind true (some k) q w e = record {
     kind = k;
-    asAnswer = w;
+    told = w;
     same =
         ap₂ (λ (c : Bool) (y : Option Kind). need c (fault 12 at 0) (elim y as (λ z. Outcome Part) [ none ↦ refused (fault 13 at 0) | some j ↦ tested at (subsectionChecks x j (has j before) n r) (found (partIn j r)) ])) q w
         ∙ leads at (subsectionChecks x k (has k before) n r) (found (partIn k r)) (sub-numbered x k (has k before) n r) e;
@@ -172,7 +172,7 @@ module _ (s : List ℕ) (x : Bool) (o : Kind) (done : List Part) (q e : ℕ) (h 
   -- Then the loop goes on after it, t bytes further, with that part after the earlier ones.
   pub record GoesOn (t : ℕ) : Type 0 where
     pub kind : Kind
-    pub asAnswer : subsectionKind o (number (bytesAt s q 2)) ≡ some kind
+    pub told : subsectionKind o (number (bytesAt s q 2)) ≡ some kind
     pub same : subsectionsFrom x o (done ++ partIn kind (drop q s) ∷ []) (q + t) (e - (q + t)) (drop (q + t) s)
         ≡ subsectionsFrom x o done q (e - q) (drop q s)
 
@@ -185,7 +185,7 @@ module _ (s : List ℕ) (x : Bool) (o : Kind) (done : List Part) (q e : ℕ) (h 
       let left : e - q - stated (drop q s) ≡ e - (q + t) = omega arith in
       record {
         kind = g .kind;
-        asAnswer = sym (ap (subsectionKind o) (at-here s q 2)) ∙ g .asAnswer;
+        told = sym (ap (subsectionKind o) (at-here s q 2)) ∙ g .told;
         same =
             sym
             (subs-more x o done q (e - q) (drop q s) (omega arith)

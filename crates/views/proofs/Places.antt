@@ -161,4 +161,4 @@ module _ {s : List ℕ} {p : Place} where
   pub standing : {k : ℕ} (q : Part) (qs : List Part) → Left s p (q ∷ qs) → k ≡ kindNumber (q .kind) → Standing s (p .at) k
   standing q qs y e =
       let a = there q qs y in
-      record { kind = q .kind; asAnswer = e; short = y .short; inside = omega (arith, a .ends, a .made) }
+      record { kind = q .kind; told = e; short = y .short; inside = omega (arith, a .ends, a .made) }

@@ -10,6 +10,7 @@ use Rattle.format.specs.Reading.{stated}
 use Rattle.format.specs.Writer.{writeAnswer}
 use Rattle.reading.proofs.Filled.{bytes-of}
 use Rattle.contents.proofs.Headers.{lengths}
+use Rattle.format.proofs.Numbering.{refusal-place}
 use Rattle.drafts.specs.Adding.{refusedAfter, subsectionAdded}
 use Rattle.drafts.specs.Tiling.{LastOf}
 use Rattle.drafts.proofs.Calls.{unread, id-at}
@@ -135,7 +136,8 @@ returns-3 c =
 append-or-fault-requires : tie.Need-append-or-fault-requires
 append-or-fault-requires c κs =
     let s = c .before .before .before .before .before .before .before .before .before .before .before .before .before in
-    last-standing (s .args .draft .now) (s .args .place) (s .pre .1) (s .pre .2)
+    let d = s .args .draft .now in
+    (last-standing d (s .args .place) (s .pre .1) (s .pre .2), λ f m r h. absurd (let l = refusal-place false _ f r .0 in omega arith))
 
 same-length-4 : tie.Need-same-length-4
 same-length-4 c = search needs

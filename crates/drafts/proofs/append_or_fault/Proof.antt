@@ -1,8 +1,9 @@
--- What appending gives; its refusal gives way to the draft's own fault.
+-- What appending gives; its refusal gives way to the draft's own fault, which there is none where it comes late.
 use mathlib.Core.Path.{sym, _∙_}
-use borrow.Author.Needs.{needs}
+use native.Mathlib.Omega.{arith}
 use Rattle.drafts.specs.Adding.{appended}
-use Rattle.drafts.proofs.Calls.{own-refused, own-found}
+use Rattle.drafts.proofs.Calls.{own-refused, own-late, own-found}
+use borrow.Author.Needs.{needs}
 use Rattle.drafts.proofs.append_or_fault.Statement.{statement}
 use Rattle.drafts.proofs.append_or_fault.Tie as tie
 
@@ -15,9 +16,6 @@ enum-known-a c = search needs
 own-fault-or-requires : tie.Need-own-fault-or-requires
 own-fault-or-requires c κs = search needs
 
-enum-known-a-2 : tie.Need-enum-known-a-2
-enum-known-a-2 c = search needs
-
 same-length : tie.Need-same-length
 same-length c = search needs
 
@@ -26,11 +24,17 @@ same-length-2 c = search needs
 
 returns : tie.Need-returns
 returns c =
-    let s = c .before .before .before .before .before .before .before .before .before .before .before .before .before .before in
-    let p = c .before .before .before .before .before .before .before .before .before in
+    let s = c .before .before .before .before .before .before .before .before .before .before .before .before .before .before .before in
+    let p = c .before .before .before .before .before .before .before .before .before .before in
     let a = s .args in
     own-refused (a .draft .now) (appended (a .draft .now) (a .section) (a .part .now))
-    (sym (c .before .before .before .a .given .1) ∙ p .append .ensures .0) (p .append .ensures .1) (c .own-fault-or .ensures)
+    (sym (c .before .before .before .before .a .given .1) ∙ p .append .ensures .0) (p .append .ensures .1) (c .own-fault-or .ensures)
+
+cast-if2 : tie.Need-cast-if2
+cast-if2 c = search needs
+
+own-fault-or-requires-2 : tie.Need-own-fault-or-requires-2
+own-fault-or-requires-2 c κs = search needs
 
 same-length-3 : tie.Need-same-length-3
 same-length-3 c = search needs
@@ -40,6 +44,37 @@ same-length-4 c = search needs
 
 returns-2 : tie.Need-returns-2
 returns-2 c =
+    let s = c .before .before .before .before .before .before .before .before .before .before .before .before .before .before .before .before in
+    let p = c .before .before .before .before .before .before .before .before .before .before .before in
+    let a = s .args in
+    own-refused (a .draft .now) (appended (a .draft .now) (a .section) (a .part .now))
+    (sym (c .before .before .before .before .before .a .given .1) ∙ p .append .ensures .0) (p .append .ensures .1) (c .own-fault-or2 .ensures)
+
+enum-known-a-2 : tie.Need-enum-known-a-2
+enum-known-a-2 c = search needs
+
+same-length-5 : tie.Need-same-length-5
+same-length-5 c = search needs
+
+same-length-6 : tie.Need-same-length-6
+same-length-6 c = search needs
+
+returns-3 : tie.Need-returns-3
+returns-3 c =
+    let s = c .before .before .before .before .before .before .before .before .before .before .before .before .before .before in
+    let p = c .before .before .before .before .before .before .before .before .before in
+    let a = s .args in
+    own-late (a .draft .now) (a .section) (a .part .now) (s .pre .1) (c .before .if1 .left) (omega (arith, c .if2 .left))
+    (sym (c .before .before .before .a .given .1) ∙ p .append .ensures .0) (p .append .ensures .1)
+
+same-length-7 : tie.Need-same-length-7
+same-length-7 c = search needs
+
+same-length-8 : tie.Need-same-length-8
+same-length-8 c = search needs
+
+returns-4 : tie.Need-returns-4
+returns-4 c =
     let s = c .before .before .before .before .before .before .before .before .before .before .before .before in
     let p = c .before .before .before .before .before .before .before in
     let a = s .args in
@@ -53,10 +88,18 @@ append-or-fault-spec =
     append-requires
     enum-known-a
     own-fault-or-requires
-    enum-known-a-2
     same-length
     same-length-2
     returns
+    cast-if2
+    own-fault-or-requires-2
     same-length-3
     same-length-4
-    returns-2)
+    returns-2
+    enum-known-a-2
+    same-length-5
+    same-length-6
+    returns-3
+    same-length-7
+    same-length-8
+    returns-4)

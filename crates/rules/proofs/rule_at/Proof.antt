@@ -87,8 +87,8 @@ returns-3 c =
     let v = c .before .before .eight .ensures in
     let pos = key-some s p (c .before .before .before .before .before .rule-fields .ensures false) (c .before .before .before .before .if2 .left) v in
     let eight = eight-bytes s p small (omega (arith, m .0, m .1)) in
-    let asAnswer = key-told s w (c .before .put .ensures) eight v pos (c .if3 .taken) in
-    rule-stops full x before s p (c .before .before .before .before .before .before .before .before .before .pre .0) (c .before .before .before .before .before .before .before .before .before .pre .2) _ asAnswer
+    let told = key-told s w (c .before .put .ensures) eight v pos (c .if3 .taken) in
+    rule-stops full x before s p (c .before .before .before .before .before .before .before .before .before .pre .0) (c .before .before .before .before .before .before .before .before .before .pre .2) _ told
     (head-pass (headChecks 20 false r) _ refl (c .before .before .before .before .before .before .before .section-head .ensures) (c .before .before .before .before .before .before .if1 .left)
     (pass _ _ refl (head-pass (fieldChecks x rule r) _ refl (c .before .before .before .before .before .rule-fields .ensures x) (c .before .before .before .before .if2 .left) (stop _ _ refl)))) (λ z. omega arith)
 
@@ -122,8 +122,8 @@ returns-4 c =
     let v = c .before .before .before .before .before .eight .ensures in
     let pos = key-some s p (c .before .before .before .before .before .before .before .before .rule-fields .ensures false) (c .before .before .before .before .before .before .before .if2 .left) v in
     let eight = eight-bytes s p small (omega (arith, m .0, m .1)) in
-    let asAnswer = key-told s w (c .before .before .before .before .put .ensures) eight v pos (c .before .before .before .if3 .left) in
-    rule-goes full x before s p (c .before .before .before .before .before .before .before .before .before .before .before .before .pre .0) (c .before .before .before .before .before .before .before .before .before .before .before .before .pre .2) w (c .before .before .before .before .put .ensures) eight v (m .0) asAnswer
+    let told = key-told s w (c .before .before .before .before .put .ensures) eight v pos (c .before .before .before .if3 .left) in
+    rule-goes full x before s p (c .before .before .before .before .before .before .before .before .before .before .before .before .pre .0) (c .before .before .before .before .before .before .before .before .before .before .before .before .pre .2) w (c .before .before .before .before .put .ensures) eight v (m .0) told
     (head-pass (headChecks 20 false r) _ refl (c .before .before .before .before .before .before .before .before .before .before .section-head .ensures) (c .before .before .before .before .before .before .before .before .before .if1 .left)
     (pass _ _ refl (head-pass (fieldChecks x rule r) _ refl (c .before .before .before .before .before .before .before .before .rule-fields .ensures x) (c .before .before .before .before .before .before .before .if2 .left) (pass _ _ refl none))))
     (c .rule-subs .ensures x)
@@ -151,8 +151,8 @@ returns-5 c =
     let v = c .before .before .before .before .before .before .eight .ensures in
     let pos = key-some s p (c .before .before .before .before .before .before .before .before .before .rule-fields .ensures false) (c .before .before .before .before .before .before .before .before .if2 .left) v in
     let eight = eight-bytes s p small (omega (arith, m .0, m .1)) in
-    let asAnswer = key-told s w (c .before .before .before .before .before .put .ensures) eight v pos (c .before .before .before .before .if3 .left) in
-    rule-goes full x before s p (c .before .before .before .before .before .before .before .before .before .before .before .before .before .pre .0) (c .before .before .before .before .before .before .before .before .before .before .before .before .before .pre .2) w (c .before .before .before .before .before .put .ensures) eight v (m .0) asAnswer
+    let told = key-told s w (c .before .before .before .before .before .put .ensures) eight v pos (c .before .before .before .before .if3 .left) in
+    rule-goes full x before s p (c .before .before .before .before .before .before .before .before .before .before .before .before .before .pre .0) (c .before .before .before .before .before .before .before .before .before .before .before .before .before .pre .2) w (c .before .before .before .before .before .put .ensures) eight v (m .0) told
     (head-pass (headChecks 20 false r) _ refl (c .before .before .before .before .before .before .before .before .before .before .before .section-head .ensures) (c .before .before .before .before .before .before .before .before .before .before .if1 .left)
     (pass _ _ refl (head-pass (fieldChecks x rule r) _ refl (c .before .before .before .before .before .before .before .before .before .rule-fields .ensures x) (c .before .before .before .before .before .before .before .before .if2 .left) (pass _ _ refl none))))
     (bare-missing full x s p (ap (λ (n : ℕ). p + n) (sym (c .before .before .if4 .left) ∙ number-at s p 2 2 (c .before .before .before .two .ensures .0))) (sym (c .before .has-required .ensures [] refl) ∙ not-true _ (c .if5 .taken)))
@@ -170,8 +170,8 @@ returns-6 c =
     let v = c .before .before .before .before .before .before .eight .ensures in
     let pos = key-some s p (c .before .before .before .before .before .before .before .before .before .rule-fields .ensures false) (c .before .before .before .before .before .before .before .before .if2 .left) v in
     let eight = eight-bytes s p small (omega (arith, m .0, m .1)) in
-    let asAnswer = key-told s w (c .before .before .before .before .before .put .ensures) eight v pos (c .before .before .before .before .if3 .left) in
-    rule-goes full x before s p (c .before .before .before .before .before .before .before .before .before .before .before .before .before .pre .0) (c .before .before .before .before .before .before .before .before .before .before .before .before .before .pre .2) w (c .before .before .before .before .before .put .ensures) eight v (m .0) asAnswer
+    let told = key-told s w (c .before .before .before .before .before .put .ensures) eight v pos (c .before .before .before .before .if3 .left) in
+    rule-goes full x before s p (c .before .before .before .before .before .before .before .before .before .before .before .before .before .pre .0) (c .before .before .before .before .before .before .before .before .before .before .before .before .before .pre .2) w (c .before .before .before .before .before .put .ensures) eight v (m .0) told
     (head-pass (headChecks 20 false r) _ refl (c .before .before .before .before .before .before .before .before .before .before .before .section-head .ensures) (c .before .before .before .before .before .before .before .before .before .before .if1 .left)
     (pass _ _ refl (head-pass (fieldChecks x rule r) _ refl (c .before .before .before .before .before .before .before .before .before .rule-fields .ensures x) (c .before .before .before .before .before .before .before .before .if2 .left) (pass _ _ refl none))))
     (bare-there full x s p (ap (λ (n : ℕ). p + n) (sym (c .before .before .if4 .left) ∙ number-at s p 2 2 (c .before .before .before .two .ensures .0))) (sym (c .before .has-required .ensures [] refl) ∙ not-false _ (c .if5 .left)))

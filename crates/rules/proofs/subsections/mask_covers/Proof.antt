@@ -8,7 +8,7 @@ use borrow.Author.Tests.{ne-eqb}
 use Rattle.format.specs.Reading.{partIn}
 use Rattle.format.specs.Parts.{exportParameters, tokenParameters}
 use Rattle.format.specs.Bytes.{number, bytesAt}
-use Rattle.sections.proofs.InformationLaws.{mask-none}
+use Rattle.format.proofs.Reaching.{mask-none}
 use Rattle.sections.proofs.Laws.{number-at, byte-number}
 use Rattle.rules.proofs.Ends.{mask-free, mask-both}
 use Rattle.rules.proofs.Places.{standing-none, standing-one}

@@ -160,8 +160,8 @@ loop-again c =
     let r′ : (4 ≤ t) × (t ≤ e - q) = (omega (arith, r .0), omega (arith, r .1)) in
     let tag = c .before .before .two .ensures .0 in
     ⊎-elim
-    (λ v. turn-on protection w h g r′ (kind-one _ _ (g .asAnswer) (sym tag ∙ v .0 .taken)) (or-true (c .before .before .before .before .before .before .loop .protected) ∙ sym (v .1)) (or-false (c .before .before .before .before .before .before .loop .dated) ∙ sym (v .2)) refl)
-    (λ v. turn-on dates w h g r′ (kind-two _ _ (g .asAnswer) (λ y. v .0 .left (tag ∙ y))) (or-false (c .before .before .before .before .before .before .loop .protected) ∙ sym (v .1)) (or-true (c .before .before .before .before .before .before .loop .dated) ∙ sym (v .2)) refl)
+    (λ v. turn-on protection w h g r′ (kind-one _ _ (g .told) (sym tag ∙ v .0 .taken)) (or-true (c .before .before .before .before .before .before .loop .protected) ∙ sym (v .1)) (or-false (c .before .before .before .before .before .before .loop .dated) ∙ sym (v .2)) refl)
+    (λ v. turn-on dates w h g r′ (kind-two _ _ (g .told) (λ y. v .0 .left (tag ∙ y))) (or-false (c .before .before .before .before .before .before .loop .protected) ∙ sym (v .1)) (or-true (c .before .before .before .before .before .before .loop .dated) ∙ sym (v .2)) refl)
     (c .before .if2 .came)
 
 returns-2 : tie.Need-returns-2 Inv-loop μ-loop
