@@ -5,10 +5,10 @@ use mathlib.Core.Bool.{Bool, true, false, _&&_}
 use mathlib.Core.List.{List, [], _∷_, _++_}
 use mathlib.Core.Logic.{_↔_, _⊎_}
 use mathlib.Core.Option.{some}
-use Prim.Native.Nat.{ℕ, suc, _+_, _*_, _≤_, _<_}
+use Prim.Native.Nat.{ℕ, suc, _+_, _*_, _^_, _≤_, _<_}
 use lib.Dec.{leb}
 use lib.ListN.{length, take, drop, getElem?}
-use Rattle.format.specs.Bytes.{All, Bytes, bytesAt}
+use Rattle.format.specs.Bytes.{All, Bytes, bigEndian, number, bytesAt}
 use Rattle.format.specs.Layout.{Fields, write, fits}
 use Rattle.format.specs.Slots.{Slot, slotBytes, fieldsIn}
 use Rattle.format.specs.Parts.{Kind, rule, isSubsection, layout, Part, size, written, writeParts, joins, WrittenForm}
@@ -23,6 +23,7 @@ use Rattle.format.specs.Claims.{IsRow, Tiles, subsOf, ruleRows, slotsOf,
 use Rattle.format.specs.Examples.{tokenT, Holds, starred}
 use Rattle.format.specs.declared.Answer.the-variants.{Accepted, Refused}
 use Rattle.format.specs.declared.Step.the-variants.{End, Stopped}
+use Rattle.format.proofs.Numbers as Numbers
 use Rattle.format.proofs.Accepted as Accepting
 use Rattle.format.proofs.Unique as Unique
 use Rattle.format.proofs.Runs as Runs
@@ -240,6 +241,11 @@ pub legal-token-rebuilt : (bs : List ℕ) (l : Legal bs) (d : List ℕ) → leng
     × (finish e ≡ Accepted (length bs))
     × (take (length bs) e ≡ bs))
 legal-token-rebuilt bs l d h = Writing.rebuilt bs l d h
+
+-- The calls of five kinds take numbers (Writer `ruleFields` and its like): any field is the bytes of the number that it
+-- states, which its length can state.
+pub field-of-its-number : (f : List ℕ) → Bytes f → (bigEndian (length f) (number f) ≡ f) × (number f < 256 ^ length f)
+field-of-its-number f b = (Numbers.bigEndian-number f b, Numbers.number-lt f b)
 
 -- "A refusal changes nothing lent, nor does any call past what it writes".
 pub refused-call-changes-nothing : (f : Fault) (d : List ℕ) → draftAfter (refused f) d ≡ d

@@ -1,5 +1,7 @@
 // Public: the additions of 14/0001 and 14/0002 to the last section of a lent draft: the protection, the dates. Each tests the
 // lengths of what it is lent, makes the subsection's bytes in an array of its own and adds them. The calls ask nothing.
+// All contracts here are one but for the kind and its fields: the answer is `writeAnswer (addition KIND FIELDS draft)`, and
+// the draft then holds `draftAfter` of the same.
 ghost use mathlib.Core.Path.{_≡_};
 ghost use mathlib.Core.List.{[], _∷_};
 ghost use Rattle.format.specs.Parts as Parts;

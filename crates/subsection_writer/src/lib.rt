@@ -1,6 +1,8 @@
 // Public: the additions of 12/0001, 12/0002 and 12/0004 to the last section of a lent draft: the variant and the rule of the
 // transport key, the rule of the source key. Each tests the length of what it is lent, makes the subsection's bytes in an
 // array of its own and adds them. The calls ask nothing.
+// All contracts here are one but for the kind and its fields: the answer is `writeAnswer (addition KIND FIELDS draft)`, and
+// the draft then holds `draftAfter` of the same.
 ghost use mathlib.Core.Path.{_≡_};
 ghost use mathlib.Core.List.{[], _∷_};
 ghost use Rattle.format.specs.Parts.{Kind, transportVariant, transportRule, sourceRule};
