@@ -1,7 +1,6 @@
 // The additions of the seven subsections for host programs in C.
-// All contracts here are one but for the kind and its fields: the answer's numbers are
-// those of `writeAnswer (addition KIND FIELDS draft)`, and the
-// draft then holds `draftAfter` of the same.
+// All contracts here are one but for the kind and its fields: the answer's numbers are those of `writeAnswer (addition KIND
+// FIELDS draft)`, and the draft then holds `draftAfter` of the same.
 ghost use mathlib.Core.Path.{_≡_};
 ghost use mathlib.Core.List.{_∷_, []};
 ghost use Rattle.format.specs.Parts as Parts;
