@@ -2,12 +2,13 @@
 -- reads. Assumes nothing.
 use mathlib.Core.Path.{_≡_, refl, sym, ap, ap₂, _∙_, subst}
 use mathlib.Core.Bool.{Bool, true, false}
-use mathlib.Core.List.{List, [], _∷_, _++_}
+use mathlib.Core.List.{List, [], _∷_, _++_, append-assoc, append-nil}
 use mathlib.Core.Logic.{_⊎_, inl, inr, ⊎-elim}
 use Prim.Native.Nat.{ℕ, suc, _+_, _^_, _≤_, _<_}
+use native.Mathlib.Nat.{add-zero}
 use native.Mathlib.Omega.{arith}
 use lib.ListN.{length, take, drop, length-append, length-drop, take-append-drop}
-use lib.Seq.{take-at, take-all, take-append-le, drop-append-le, length-take-le}
+use lib.Seq.{take-at, take-all, drop-at, drop-append-le, length-take-le}
 use Rattle.format.specs.Bytes.{Bytes}
 use Rattle.format.specs.Parts.{external, writeParts}
 use Rattle.format.specs.Rules.{Check, Section}
@@ -22,18 +23,18 @@ use Rattle.format.proofs.Complete.{section-found}
 use Rattle.format.proofs.Numbering.{Early, Comes, Inside, section-comes}
 use Rattle.contents.proofs.Headers.{lengths}
 use Rattle.drafts.specs.Adding.{grown, Reads}
-use Rattle.drafts.specs.Tiling.{here, next, Tiled}
-use Rattle.drafts.proofs.Tiling.{stated-front}
+use Rattle.drafts.specs.Tiling.{TiledTo, here, next, Tiled}
+use Rattle.drafts.proofs.Tiling.{stated-front, passed, passed-then}
 use Rattle.drafts.proofs.Longer.{restate-long, grown-long}
 use Rattle.drafts.proofs.Restating.{behind-restated, restate-id, restate-stated, restate-over, id-taken}
 use Rattle.drafts.proofs.Whole.{header-standing}
 
 -- ---- one section
 
--- A section that is found is found as well without what stands after it.
-section-alone : (x : Bool) (before : List Section) (at : ℕ) (a w : List ℕ) (s : Section) → Bytes (a ++ w) → length a < 256 ^ 2
-    → 4 ≤ stated a → stated a ≤ length a → section false x before at (a ++ w) ≡ found s → section false x before at a ≡ found s
-section-alone x before at a w s b small four ends e =
+-- A section that is found is found as well before other bytes.
+section-moved : (x : Bool) (before : List Section) (at : ℕ) (a w y : List ℕ) (s : Section) → Bytes (a ++ w) → length a < 256 ^ 2
+    → 4 ≤ stated a → stated a ≡ length a → section false x before at (a ++ w) ≡ found s → section false x before at (a ++ y) ≡ found s
+section-moved x before at a w y s b small four ends e =
     let S : List ℕ = writeParts (s .head ∷ s .subs) in
     let r = section-read false x before at (a ++ w) s b e in
     let st : stated (a ++ w) ≡ stated a = stated-front a w (omega arith) in
@@ -41,11 +42,10 @@ section-alone x before at a w s b small four ends e =
     let ld = length-drop (stated (a ++ w)) (a ++ w) in
     let ls = ap length (r .form) in
     let lf = length-append S (drop (stated (a ++ w)) (a ++ w)) in
-    let long : length S ≡ stated a = omega arith in
-    let front : take (stated a) a ≡ S =
-    sym (take-append-le (stated a) a w ends) ∙ ap (take (stated a)) (sym (r .form)) ∙ take-at S (drop (stated (a ++ w)) (a ++ w)) (stated a) long in
-    section-found false x before at s a (drop (stated a) a) (r .good) (r .new) (omega arith)
-    (sym (take-append-drop (stated a) a) ∙ ap (λ (y : List ℕ). y ++ drop (stated a) a) front) .0
+    let long : length S ≡ length a = omega arith in
+    let front : a ≡ S =
+    sym (take-at a w (length a) refl) ∙ ap (take (length a)) (sym (r .form)) ∙ take-at S (drop (stated (a ++ w)) (a ++ w)) (length a) long in
+    section-found false x before at s (a ++ y) y (r .good) (r .new) (omega arith) (ap (λ (v : List ℕ). v ++ y) front) .0
 
 -- A section that is refused is refused within its own bytes.
 section-early : (x : Bool) (before : List Section) (at : ℕ) (r : List ℕ) (f : Fault) → 4 ≤ stated r
@@ -58,63 +58,81 @@ section-early x before at r f four e =
 -- ---- all sections
 
 -- What is read comes to no refusal before e.
-abbrev Late : ℕ → Outcome (List Section) → Type 0
+abbrev pub Late : ℕ → Outcome (List Section) → Type 0
 Late e (refused f) = e ≤ f .part
 Late e (found ss) = Unit {0}
 
--- Sections that end where the bytes a do, and are not refused before, are found without what stands after them.
-sections-alone : {a : List ℕ} (x : Bool) (w : List ℕ) → Tiled a → (before : List Section) (at : ℕ) → Bytes (a ++ w) → length a < 256 ^ 2
-    → Late (at + length a) (sectionsFrom false x before at (a ++ w))
-    → (ss : List Section) × (sectionsFrom false x before at a ≡ found ss)
-unfolding need
-sections-alone x w here before at b small h = (before, sections-none false x before at [] refl)
-sections-alone {a} x w (next four ends t) before at b small h =
-    let c = all-split (λ (y : ℕ). y < 256) a w b in
-    let l = length-drop (stated a) a in
-    go (section false x before at (a ++ w)) refl
-    (λ s k. sections-alone x w t (before ++ s ∷ []) (at + stated a) (all-join (λ (y : ℕ). y < 256) (drop (stated a) a) w (bytes-drop (stated a) a (c .0)) (c .1)) (omega arith) k)
+-- A section T, then what is passed after it, and what follows.
+turn : (x : Bool) (before : List Section) (at : ℕ) (T P w : List ℕ) → Bytes (T ++ (P ++ w)) → length T < 256 ^ 2 → 4 ≤ stated T → stated T ≡ length T
+    → Late (at + length (T ++ P)) (sectionsFrom false x before at (T ++ (P ++ w)))
+    → ((s : Section) → Late (at + length T + length P) (sectionsFrom false x (before ++ s ∷ []) (at + length T) (P ++ w))
+    → (ss : List Section) × ((y : List ℕ) → sectionsFrom false x (before ++ s ∷ []) (at + length T) (P ++ y) ≡ sectionsFrom false x ss (at + length T + length P) y))
+    → (ss : List Section) × ((y : List ℕ) → sectionsFrom false x before at (T ++ (P ++ y)) ≡ sectionsFrom false x ss (at + length (T ++ P)) y)
+turn x before at T P w b small four same h more = go (section false x before at (T ++ (P ++ w))) refl
   where
-    go : (o : Outcome Section) → section false x before at (a ++ w) ≡ o
-        → ((s : Section) → Late (at + stated a + length (drop (stated a) a)) (sectionsFrom false x (before ++ s ∷ []) (at + stated a) (drop (stated a) a ++ w))
-        → (ss : List Section) × (sectionsFrom false x (before ++ s ∷ []) (at + stated a) (drop (stated a) a) ≡ found ss))
-        → (ss : List Section) × (sectionsFrom false x before at a ≡ found ss)
-    go (refused f) e more =
-        let la = length-append a w in
-        let st : stated (a ++ w) ≡ stated a = stated-front a w (omega arith) in
-        let n = section-early x before at (a ++ w) f (omega arith) e in
-        let m : at + length a ≤ f .part = subst (Late (at + length a)) (sections-more false x before at (a ++ w) (omega arith) ∙ then-refused _ e) h in
+    step : (s : Section) → section false x before at (T ++ (P ++ w)) ≡ found s → (y : List ℕ)
+        → sectionsFrom false x before at (T ++ (P ++ y)) ≡ sectionsFrom false x (before ++ s ∷ []) (at + length T) (P ++ y)
+    step s e y =
+        let l = length-append T (P ++ y) in
+        let st : stated (T ++ (P ++ y)) ≡ length T = stated-front T (P ++ y) (omega arith) ∙ same in
+        sections-more false x before at (T ++ (P ++ y)) (omega arith)
+        ∙ then-found _ (section-moved x before at T (P ++ w) (P ++ y) s b small four same e)
+        ∙ ap (λ (n : ℕ). sectionsFrom false x (before ++ s ∷ []) (at + n) (drop n (T ++ (P ++ y)))) st
+        ∙ ap (sectionsFrom false x (before ++ s ∷ []) (at + length T)) (drop-at T (P ++ y) (length T) refl)
+
+    go : (o : Outcome Section) → section false x before at (T ++ (P ++ w)) ≡ o
+        → (ss : List Section) × ((y : List ℕ) → sectionsFrom false x before at (T ++ (P ++ y)) ≡ sectionsFrom false x ss (at + length (T ++ P)) y)
+    go (refused f) e =
+        let l = length-append T (P ++ w) in
+        let k = length-append T P in
+        let st : stated (T ++ (P ++ w)) ≡ length T = stated-front T (P ++ w) (omega arith) ∙ same in
+        let n = section-early x before at (T ++ (P ++ w)) f (omega arith) e in
+        let m : at + length (T ++ P) ≤ f .part =
+        subst (Late (at + length (T ++ P))) (sections-more false x before at (T ++ (P ++ w)) (omega arith) ∙ then-refused _ e) h in
         absurd (omega arith)
-    go (found s) e more =
-        let la = length-append a w in
-        let l = length-drop (stated a) a in
-        let st : stated (a ++ w) ≡ stated a = stated-front a w (omega arith) in
-        let own = section-alone x before at a w s b small four ends e in
-        let rest : sectionsFrom false x before at (a ++ w) ≡ sectionsFrom false x (before ++ s ∷ []) (at + stated a) (drop (stated a) a ++ w) =
-        sections-more false x before at (a ++ w) (omega arith)
-        ∙ then-found _ e
-        ∙ ap (λ (n : ℕ). sectionsFrom false x (before ++ s ∷ []) (at + n) (drop n (a ++ w))) st
-        ∙ ap (sectionsFrom false x (before ++ s ∷ []) (at + stated a)) (drop-append-le (stated a) a w ends) in
-        let sum : at + length a ≡ at + stated a + length (drop (stated a) a) = omega arith in
-        let i = more s (subst (λ (n : ℕ). Late n (sectionsFrom false x (before ++ s ∷ []) (at + stated a) (drop (stated a) a ++ w))) sum (subst (Late (at + length a)) rest h)) in
-        (i .0, sections-more false x before at a (omega arith) ∙ then-found _ own ∙ i .1)
+    go (found s) e =
+        let k = length-append T P in
+        let sum : at + length (T ++ P) ≡ at + length T + length P = omega arith in
+        let i = more s (subst (λ (n : ℕ). Late n (sectionsFrom false x (before ++ s ∷ []) (at + length T) (P ++ w))) sum
+        (subst (Late (at + length (T ++ P))) (step s e w) h)) in
+        (i .0, λ y. step s e y ∙ i .1 y ∙ ap (λ (n : ℕ). sectionsFrom false x (i .0) n y) (sym sum))
+
+-- Sections that are passed by their stated lengths, and are not refused before their end: they are read, whatever stands
+-- after them.
+pub sections-front : {z r : List ℕ} (x : Bool) (w : List ℕ) (t : TiledTo z r) (before : List Section) (at : ℕ) → Bytes (passed t ++ w)
+    → length (passed t) < 256 ^ 2 → Late (at + length (passed t)) (sectionsFrom false x before at (passed t ++ w))
+    → (ss : List Section) × ((y : List ℕ) → sectionsFrom false x before at (passed t ++ y) ≡ sectionsFrom false x ss (at + length (passed t)) y)
+unfolding passed
+sections-front x w here before at b small h = (before, λ y. ap (λ (n : ℕ). sectionsFrom false x before n y) (sym (add-zero at)))
+sections-front {z} {r} x w (next four ends t) before at b small h =
+    let T : List ℕ = take (stated r) r in
+    let lt : length T ≡ stated r = length-take-le (stated r) r ends in
+    let st : stated r ≡ stated T = sym (ap stated (take-append-drop (stated r) r)) ∙ stated-front T (drop (stated r) r) (omega arith) in
+    let lp = length-append T (passed t) in
+    let whole : Bytes (T ++ (passed t ++ w)) = subst Bytes (append-assoc T (passed t) w) b in
+    let c = all-split (λ (y : ℕ). y < 256) T (passed t ++ w) whole in
+    let i = turn x before at T (passed t) w whole (omega arith) (omega arith) (omega arith)
+    (subst (Late (at + length (T ++ passed t))) (ap (sectionsFrom false x before at) (append-assoc T (passed t) w)) h)
+    (λ s k. sections-front x w t (before ++ s ∷ []) (at + length T) (c .1) (omega arith) k) in
+    (i .0, λ y. ap (sectionsFrom false x before at) (append-assoc T (passed t) y) ∙ i .1 y)
 
 -- ---- the longer draft
 
 -- A refusal after tests is one of them, at their place, or comes after them.
-tests-late : {A : Type 0} (at : ℕ) (cs : List Check) (rest : Outcome A) (f : Fault) → tested at cs rest ≡ refused f
-    → (f .part ≡ at) ⊎ (rest ≡ refused f)
+pub tests-late : {A : Type 0} (at : ℕ) (cs : List Check) (rest : Outcome A) (f : Fault) → tested at cs rest ≡ refused f
+    → (f .part ≡ at) ⊎ (Hold cs × (rest ≡ refused f))
 unfolding tested need
-tests-late at [] rest f e = inr e
-tests-late {A} at (c ∷ cs) rest f e = go (c .holds) (λ q. tests-late at cs rest f q) e
+tests-late at [] rest f e = inr (tt, e)
+tests-late {A} at (c ∷ cs) rest f e = go (c .holds) refl (λ q. tests-late at cs rest f q) e
   where
-    go : (b : Bool) → (tested at cs rest ≡ refused f → (f .part ≡ at) ⊎ (rest ≡ refused f))
-        → need b (fault (c .refusal) at (c .field)) (tested at cs rest) ≡ refused f → (f .part ≡ at) ⊎ (rest ≡ refused f)
-    go true more q = more q
-    go false more q = inl cc
+    go : (b : Bool) → c .holds ≡ b → (tested at cs rest ≡ refused f → (f .part ≡ at) ⊎ (Hold cs × (rest ≡ refused f)))
+        → need b (fault (c .refusal) at (c .field)) (tested at cs rest) ≡ refused f → (f .part ≡ at) ⊎ (Hold (c ∷ cs) × (rest ≡ refused f))
+    go true p more q = ⊎-elim (λ u. inl u) (λ u. inr ((p, u .0), u .1)) (more q)
+    go false p more q = inl cc
 
 pub late-reads : (d w : List ℕ) (f : Fault) → Bytes d → Bytes w → Hold (headerChecks false d) → stated d + length w ≤ 3500
     → Tiled (drop 8 (take (stated d) d)) → reading false (grown d 0 w) ≡ refused f → stated d ≤ f .part → Reads d
-unfolding reading
+unfolding reading need
 late-reads d w f b c h m t e late =
     let D : List ℕ = take (stated d) d in
     let n : ℕ = stated d + length w in
@@ -140,9 +158,18 @@ late-reads d w f b c h m t e late =
     let from : sectionsFrom false (external (idOf d)) [] 8 (drop 8 D ++ w) ≡ refused f =
     sym (sections-from (suc (stated g)) false (external (idOf g)) [] 8 (drop 8 (take (stated g) g)) (omega arith)
     ∙ ap₂ (λ (i : ℕ) (y : List ℕ). sectionsFrom false (external i) [] 8 y) id body)
-    ∙ q in
+    ∙ q .1 in
     let bD = bytes-take (stated d) d b in
-    let r = sections-alone (external (idOf d)) w t [] 8 (all-join (λ (y : ℕ). y < 256) (drop 8 D) w (bytes-drop 8 D bD) c) (omega arith)
-    (subst (Late (8 + length (drop 8 D))) (sym from) (omega arith)) in
-    (r .0, tests-lead 0 (headerChecks false d) _ h ∙ sections-from (suc (stated d)) false (external (idOf d)) [] 8 (drop 8 D) (omega arith) ∙ r .1))
+    let all : drop 8 D ≡ passed t = passed-then t ∙ append-nil (passed t) in
+    let la = ap length all in
+    let r = sections-front (external (idOf d)) w t [] 8
+    (subst (λ (y : List ℕ). Bytes (y ++ w)) all (all-join (λ (y : ℕ). y < 256) (drop 8 D) w (bytes-drop 8 D bD) c)) (omega arith)
+    (subst (Late (8 + length (passed t))) (sym (ap (λ (y : List ℕ). sectionsFrom false (external (idOf d)) [] 8 (y ++ w)) (sym all) ∙ from)) (omega arith)) in (
+      r .0,
+      tests-lead 0 (headerChecks false d) _ h
+          ∙ sections-from (suc (stated d)) false (external (idOf d)) [] 8 (drop 8 D) (omega arith)
+          ∙ ap (sectionsFrom false (external (idOf d)) [] 8) (all ∙ sym (append-nil (passed t)))
+          ∙ r .1 []
+          ∙ sections-none false (external (idOf d)) (r .0) (8 + length (passed t)) [] refl,
+    ))
     (tests-late 0 (headerChecks false g) _ f e)

@@ -119,7 +119,7 @@ shorter x i t z w m g e h b s fits-in small u q =
 -- ---- a subsection added
 
 -- The bytes of the longer draft: those before the last section with the header's new length, and the section with its own.
-grown-cut : (d w : List ℕ) (o : ℕ) → 8 ≤ o → o + 4 ≤ stated d → stated d ≤ length d
+pub grown-cut : (d w : List ℕ) (o : ℕ) → 8 ≤ o → o + 4 ≤ stated d → stated d ≤ length d
     → (grown d o w ≡ restate 0 (stated d + length w) (take o (take (stated d) d))
     ++ (restate 0 (stated (drop o d) + length w) (drop o (take (stated d) d)) ++ w))
 grown-cut d w o h k l =
@@ -140,7 +140,7 @@ grown-cut d w o h k l =
     ∙ append-assoc A (restate 0 m z) w
 
 -- What stands between the header and the last section.
-before-last : (D : List ℕ) (o : ℕ) (p : List ℕ) → 8 ≤ o → o ≤ length D → drop 8 D ≡ p ++ drop o D → drop 8 (take o D) ≡ p
+pub before-last : (D : List ℕ) (o : ℕ) (p : List ℕ) → 8 ≤ o → o ≤ length D → drop 8 D ≡ p ++ drop o D → drop 8 (take o D) ≡ p
 before-last D o p q v e =
     let l₁ = length-take-le o D v in
     let l₂ = length-drop 8 D in

@@ -52,7 +52,7 @@ laid-tiled f (x ∷ xs) r h e =
 
 -- ---- what stepping passes
 
-pub passed : {z r : List ℕ} → TiledTo z r → List ℕ
+unfoldable pub passed : {z r : List ℕ} → TiledTo z r → List ℕ
 passed here = []
 passed {z} {r} (next a b t) = take (stated r) r ++ passed t
 

@@ -6,9 +6,9 @@ use mathlib.Core.Logic.{_⊎_}
 use Prim.Native.Nat.{ℕ, _+_, _≤_}
 use lib.Dec.{eqb, leb}
 use lib.ListN.{length, take, drop}
-use Rattle.format.specs.Parts.{span}
+use Rattle.format.specs.Parts.{Kind, rule, information, span}
 use Rattle.format.specs.Rules.{Section}
-use Rattle.format.specs.Reading.{Fault, Outcome, refused, found, fault, need, andThen, idOf, stated, reading}
+use Rattle.format.specs.Reading.{Outcome, refused, found, fault, need, andThen, idOf, stated, reading}
 use Rattle.format.proofs.Changes.{restate}
 
 -- the place of the last of the sections that stand from the place at on, the one before them standing at `last`
@@ -56,6 +56,10 @@ subsectionAdded i d w =
 abbrev pub holdsSubsections : ℕ → Bool
 holdsSubsections i = eqb i 0x12 || eqb i 0x14
 
+-- their kinds
+abbrev pub holderKind : ℕ → Kind
+holderKind i = elim (eqb i 0x12) [ true ↦ rule | false ↦ information ]
+
 -- the bytes of their fixed fields
 abbrev pub fixedFields : ℕ → ℕ
 fixedFields i = elim (eqb i 0x12) [ true ↦ 20 | false ↦ 10 ]
@@ -72,7 +76,3 @@ pub record Standing (d : List ℕ) (o : ℕ) : Type 0 where
 -- the bytes read as a draft
 abbrev pub Reads : List ℕ → Type 0
 Reads d = (ss : List Section) × (reading false d ≡ found ss)
-
--- where the longer draft is refused at place e or after it, the draft reads
-abbrev pub ReadsWhenLate : List ℕ → ℕ → List ℕ → ℕ → Type 0
-ReadsWhenLate d o w e = (f : Fault) → stated d + length w ≤ 3500 → reading false (grown d o w) ≡ refused f → e ≤ f .part → Reads d

@@ -1,12 +1,12 @@
 -- Internal: parts that follow each other, each as long as it states.
 use mathlib.Core.Path.{_≡_}
-use mathlib.Core.Bool.{false}
+use mathlib.Core.Bool.{true, false}
 use mathlib.Core.List.{List, []}
 use Prim.Native.Nat.{ℕ, _+_, _≤_}
 use lib.ListN.{length, take, drop}
-use Rattle.format.specs.Reading.{stated, headerChecks}
+use Rattle.format.specs.Reading.{idOf, stated, headerChecks}
 use Rattle.format.proofs.Tests.{Hold}
-use Rattle.drafts.specs.Adding.{Reads}
+use Rattle.drafts.specs.Adding.{Reads, holdsSubsections, fixedFields}
 use Rattle.drafts.specs.declared.last.Last.{Last}
 use Rattle.drafts.specs.declared.last.Last.the-variants.{At, Empty, Broken}
 
@@ -32,6 +32,14 @@ pub record LastAt (s : List ℕ) (first p : ℕ) : Type 0 where
   pub head : p + 4 ≤ length s
   pub tiled : TiledTo (drop p s) (drop first s)
   pub ends : p + stated (drop p s) ≡ length s
+
+-- the last section of a draft stands at the place o and has the id i, of a section that has subsections, and its fixed fields
+pub record LastOpen (d : List ℕ) (i o : ℕ) : Type 0 where
+  pub holds : holdsSubsections i ≡ true
+  pub header : Hold (headerChecks false d)
+  pub last : LastAt (take (stated d) d) 8 o
+  pub id : idOf (drop o d) ≡ i
+  pub fixed : o + fixedFields i ≤ stated d
 
 -- what is found of the last part of s from the place first on
 abbrev pub LastOf : List ℕ → ℕ → Last → Type 0

@@ -5,13 +5,16 @@ mod last; // last.rt: the parts of a draft, passed by their lengths
 
 ghost use mathlib.Core.Path.{_≡_};
 ghost use mathlib.Core.Bool.{true, false};
-ghost use lib.ListN.{take};
+ghost use Prim.Native.Nat.{_+_, _≤_};
+ghost use lib.ListN.{length, take, drop};
 ghost use Rattle.format.specs.Bytes.{Bytes};
-ghost use Rattle.format.specs.Reading.{stated, headerChecks};
+ghost use Rattle.format.specs.Parts.{external};
+ghost use Rattle.format.specs.Reading.{asAnswer, idOf, stated, sectionRest, headerChecks};
 ghost use Rattle.format.proofs.Tests.{Hold};
 ghost use Rattle.format.specs.Writer.{writeAnswer, draftAfter};
-ghost use Rattle.drafts.specs.Adding.{Standing, ReadsWhenLate, unfit, refusedAfter, ownFirst, appended, sectionAdded, subsectionAdded, holdsSubsections, fixedFields};
-ghost use Rattle.drafts.specs.Tiling.{LastAt};
+ghost use Rattle.sections.specs.Refusals.{sectionRows};
+ghost use Rattle.drafts.specs.Adding.{unfit, refusedAfter, ownFirst, appended, sectionAdded, subsectionAdded, holdsSubsections, holderKind, fixedFields};
+ghost use Rattle.drafts.specs.Tiling.{Tiled, LastAt, LastOpen};
 use crate::growing::append;
 use crate::last::Last;
 use crate::last::last_part;
@@ -19,6 +22,8 @@ use crate::last::last_section;
 use fields::two;
 use format::Answer;
 use reading::draft::read_draft;
+use rules::subsections::rule_subs;
+use sections::information::information_subs;
 
 // The answer of a call that is refused: the draft's own fault, else the refusal.
 fn own_fault_or(draft: &[u8], number: u32, place: u32) -> Answer
@@ -42,25 +47,26 @@ pub fn not_fitting(draft: &[u8]) -> Answer
     }
 }
 
-// Puts a part after the draft, whose own fault comes before any other refusal. Where the longer draft is refused at `end` or
-// after it, the draft is known to read, and is not read again.
-fn append_or_fault(draft: &mut [u8], section: usize, part: &mut [u8], end: usize) -> Answer
-    requires { ⌜ Standing (now draft) section × ReadsWhenLate (now draft) section (now part) end ⌝ }
-    ensures answer { λ r. ⌜ r ≡ writeAnswer (ownFirst (now (draft .entry)) (appended (now (draft .entry)) section (now (part .entry)))) ⌝ }
-    ensures draft { λ _. ⌜ now (draft .exit) ≡ draftAfter (ownFirst (now (draft .entry)) (appended (now (draft .entry)) section (now (part .entry)))) (now (draft .entry)) ⌝ }
+// Puts a section after the draft, whose own fault comes before any other refusal. Where the longer draft is refused at the
+// added section, the draft reads, and is not read again.
+fn append_section(draft: &mut [u8], part: &mut [u8]) -> Answer
+    requires { ⌜ Hold (headerChecks false (now draft)) × Tiled (drop 8 (take (stated (now draft)) (now draft))) ⌝ }
+    ensures answer { λ r. ⌜ r ≡ writeAnswer (ownFirst (now (draft .entry)) (appended (now (draft .entry)) 0 (now (part .entry)))) ⌝ }
+    ensures draft { λ _. ⌜ now (draft .exit) ≡ draftAfter (ownFirst (now (draft .entry)) (appended (now (draft .entry)) 0 (now (part .entry)))) (now (draft .entry)) ⌝ }
 {
-    let a = append(draft, section, part);
+    let n = two(draft, 2);
+    let a = append(draft, 0, part);
     match a {
-        Answer::Refused(number, place) => {
+        Answer::Refused(number, at) => {
             if number == 23 {
-                return own_fault_or(draft, number, place);
+                return own_fault_or(draft, number, at);
             }
-            if (place as usize) < end {
-                return own_fault_or(draft, number, place);
+            if (at as usize) < n {
+                return own_fault_or(draft, number, at);
             }
-            Answer::Refused(number, place)
+            Answer::Refused(number, at)
         }
-        Answer::Accepted(n) => Answer::Accepted(n),
+        Answer::Accepted(m) => Answer::Accepted(m),
     }
 }
 
@@ -76,8 +82,7 @@ pub fn add_section(draft: &mut [u8], part: &mut [u8]) -> Answer
     if let Last::Broken = last {
         return read_draft(draft);
     }
-    let n = two(draft, 2);
-    append_or_fault(draft, 0, part, n)
+    append_section(draft, part)
 }
 
 // The bytes of the fixed fields of a section that has subsections.
@@ -90,9 +95,46 @@ fn fixed_fields(id: u8) -> usize
     10
 }
 
+// The subsections of the last section of a draft, at a place, and what is tested after them.
+fn last_subsections(s: &[u8], id: u8, place: usize) -> Answer
+    requires { ⌜ (place + fixedFields id ≤ length (now s)) × (length (now s) ≤ 3500) × (length (now s) ≡ place + stated (drop place (now s))) ⌝ }
+    ensures { λ r. ⌜ r ≡ asAnswer sectionRows (sectionRest false (external (idOf (now (s .entry)))) (holderKind id) place (drop place (now (s .entry)))) ⌝ }
+{
+    if id == 0x12 {
+        return rule_subs(s, place, s.len(), false);
+    }
+    information_subs(s, place, s.len(), s[0] == 30, false)
+}
+
+// Puts a subsection after the draft, whose own fault comes before any other refusal. Where the longer draft is refused after
+// the head of its last section, the draft reads up to that section's subsections, and only these are read again.
+fn append_subsection(draft: &mut [u8], id: u8, place: usize, part: &mut [u8]) -> Answer
+    requires { ⌜ LastOpen (now draft) id place ⌝ }
+    ensures answer { λ r. ⌜ r ≡ writeAnswer (ownFirst (now (draft .entry)) (appended (now (draft .entry)) place (now (part .entry)))) ⌝ }
+    ensures draft { λ _. ⌜ now (draft .exit) ≡ draftAfter (ownFirst (now (draft .entry)) (appended (now (draft .entry)) place (now (part .entry)))) (now (draft .entry)) ⌝ }
+{
+    let n = two(draft, 2);
+    let a = append(draft, place, part);
+    match a {
+        Answer::Refused(number, at) => {
+            if number == 23 {
+                return own_fault_or(draft, number, at);
+            }
+            if at as usize <= place {
+                return own_fault_or(draft, number, at);
+            }
+            let own = last_subsections(&draft[..n], id, place);
+            match own {
+                Answer::Refused(f, p) => Answer::Refused(f, p),
+                Answer::Accepted(_rows) => Answer::Refused(number, at),
+            }
+        }
+        Answer::Accepted(m) => Answer::Accepted(m),
+    }
+}
+
 // Adds the bytes of a subsection to the section at a place, the last one, where it has the given id. Where its subsections
-// end where it does too, and the longer draft reads, the draft reads. A refusal does not tell it, at whatever place: 18 is
-// tested after the last subsection.
+// end where it does too, and the longer draft reads, the draft reads.
 fn add_behind(draft: &mut [u8], id: u8, place: usize, part: &mut [u8]) -> Answer
     requires { ⌜ (holdsSubsections id ≡ true) × Hold (headerChecks false (now draft)) × LastAt (take (stated (now draft)) (now draft)) 8 place ⌝ }
     ensures answer { λ r. ⌜ r ≡ writeAnswer (subsectionAdded id (now (draft .entry)) (now (part .entry))) ⌝ }
@@ -110,7 +152,7 @@ fn add_behind(draft: &mut [u8], id: u8, place: usize, part: &mut [u8]) -> Answer
     if let Last::Broken = last {
         return read_draft(draft);
     }
-    append_or_fault(draft, place, part, 3501)
+    append_subsection(draft, id, place, part)
 }
 
 // Adds the bytes of a subsection to the last section, which is to have the given id.

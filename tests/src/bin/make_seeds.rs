@@ -7,6 +7,8 @@ use trusted_block_tests::fuzzed::coded::coded;
 use trusted_block_tests::generate::calls::{sequence, Call, Sequence};
 use trusted_block_tests::generate::damage::damaged;
 use trusted_block_tests::generate::legal::{legal, ordinary};
+use trusted_block_tests::kinds;
+use trusted_block_tests::parts::Part;
 use trusted_block_tests::random::Random;
 use trusted_block_tests::sample_files::samples;
 use trusted_block_tests::samples::token_of_all_kinds;
@@ -31,6 +33,7 @@ fn main() -> std::io::Result<()> {
         .filter_map(|t| rebuilding(t))
         .collect();
     calls.extend((0..3 * COUNT).map(|_| coded(&sequence(&mut random))));
+    calls.extend(short_last_sections());
     write_all(&Path::new(&folder).join("reading"), &tokens)?;
     write_all(&Path::new(&folder).join("writing"), &calls)
 }
@@ -43,6 +46,23 @@ fn rebuilding(token: &[u8]) -> Option<Vec<u8>> {
     calls.push(Call::Finish);
     let buffer = vec![0xEE; token.len()];
     Some(coded(&Sequence { buffer, calls }))
+}
+
+/// An addition to a draft whose last section ends within its own fields.
+fn short_last_sections() -> [Vec<u8>; 2] {
+    let variant = Part::TransportVariant { variant: vec![] };
+    let dates = Part::Dates {
+        flags: 0,
+        activation: vec![0x07, 0xD0, 1, 1],
+        expiration: vec![0x07, 0xD0, 1, 1],
+    };
+    [variant, dates].map(|part| {
+        let id = (kinds::owner_of(part.kind()) >> 16) as u8;
+        let mut buffer = vec![0xEE; 100];
+        buffer[..12].copy_from_slice(&[kinds::EXTERNAL, 0, 0, 12, 0, 0, 0, 0, id, 0, 0, 4]);
+        let calls = vec![Call::Add(part)];
+        coded(&Sequence { buffer, calls })
+    })
 }
 
 fn write_all(folder: &Path, seeds: &[Vec<u8>]) -> std::io::Result<()> {

@@ -10,12 +10,11 @@ use Rattle.format.specs.Reading.{stated}
 use Rattle.format.specs.Writer.{writeAnswer}
 use Rattle.reading.proofs.Filled.{bytes-of}
 use Rattle.contents.proofs.Headers.{lengths}
-use Rattle.format.proofs.Numbering.{refusal-place}
 use Rattle.drafts.specs.Adding.{refusedAfter, subsectionAdded}
 use Rattle.drafts.specs.Tiling.{LastOf}
 use Rattle.drafts.proofs.Calls.{unread, id-at}
 use Rattle.drafts.proofs.Outcomes.{same-written}
-use Rattle.drafts.proofs.Adding.{walk-ended, walk-broken, other-last, refused-kept, last-subs, sub-tried, last-standing, last-below, last-inside, fixed-most}
+use Rattle.drafts.proofs.Adding.{walk-ended, walk-broken, other-last, refused-kept, last-subs, sub-tried, last-below, last-inside, fixed-most}
 use Rattle.drafts.proofs.add_behind.Statement.{statement}
 use Rattle.drafts.proofs.add_behind.Tie as tie
 
@@ -133,11 +132,21 @@ returns-3 c =
     (λ r. walk-broken _ _ (p .last-part .result) w (c .before .before .before .match .keys1) (last-subs d (r .0) (a .place) (a .id) b (r .1) (s .pre .2) id (s .pre .0) .1))
     (c .read-draft2 .ensures)
 
-append-or-fault-requires : tie.Need-append-or-fault-requires
-append-or-fault-requires c κs =
+append-subsection-requires : tie.Need-append-subsection-requires
+append-subsection-requires c κs =
     let s = c .before .before .before .before .before .before .before .before .before .before .before .before .before in
-    let d = s .args .draft .now in
-    (last-standing d (s .args .place) (s .pre .1) (s .pre .2), λ f m r h. absurd (let l = refusal-place false _ f r .0 in omega arith))
+    let a = s .args in
+    let d = a .draft .now in
+    let n = c .before .before .before .before .before .before .before .before .before .two .ensures .0 in
+    let f = c .before .before .before .before .before .before .fixed-fields .ensures in
+    let h = c .before .before .before .before .before .if2 .left in
+    record {
+      holds = s .pre .0;
+      header = s .pre .1;
+      last = s .pre .2;
+      id = id-at d (a .place) (last-inside d (a .place) (s .pre .1) (s .pre .2)) ∙ c .before .before .before .before .before .before .before .if1 .left;
+      fixed = omega (arith, n, f, h);
+    }
 
 same-length-4 : tie.Need-same-length-4
 same-length-4 c = search needs
@@ -162,7 +171,7 @@ returns-4 c =
     let tiled = walk-ended _ _ (p .last-part .result) u (c .before .before .before .before .before .before .before .match .keys2) in
     let e = sub-tried d w (a .place) (a .id) b (bytes-of w (λ i. (t .before .before .slice-known2 .given i) .fits)) (s .pre .1) (s .pre .2)
     (last-inside d (a .place) (s .pre .1) (s .pre .2)) (p .before .before .before .before .if1 .left) (s .pre .0) (omega (arith, n, f, h)) tiled in
-    same-written d e (c .before .before .before .before .append-or-fault .ensures .0) (c .before .before .before .before .append-or-fault .ensures .1)
+    same-written d e (c .before .before .before .before .append-subsection .ensures .0) (c .before .before .before .before .append-subsection .ensures .1)
 
 pub add-behind-spec : {M : Type 1} → statement M
 add-behind-spec =
@@ -186,7 +195,7 @@ add-behind-spec =
     read-draft-requires-2
     same-length-3
     returns-3
-    append-or-fault-requires
+    append-subsection-requires
     same-length-4
     same-length-5
     returns-4)

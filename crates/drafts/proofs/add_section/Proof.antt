@@ -1,12 +1,9 @@
 -- The walk over the sections, then the longer draft, or the draft alone where it does not read.
-use native.Mathlib.Omega.{arith}
 use Rattle.reading.proofs.Filled.{bytes-of}
 use Rattle.drafts.specs.Adding.{sectionAdded}
 use Rattle.drafts.proofs.Calls.{unread}
 use Rattle.drafts.proofs.Outcomes.{same-written}
-use Rattle.drafts.proofs.Whole.{header-standing}
 use Rattle.drafts.proofs.Adding.{sections-ended, sections-broken, section-tried}
-use Rattle.drafts.proofs.Refusals.{late-reads}
 use borrow.Author.Needs.{needs}
 use Rattle.drafts.proofs.add_section.Statement.{statement}
 use Rattle.drafts.proofs.add_section.Tie as tie
@@ -32,26 +29,11 @@ returns c =
     let f = unread d _ (sections-broken d (l .last-section .result) (l .last-section .ensures) (c .before .before .before .match .keys1)) (c .read-draft .ensures) in
     (f .0, (f .1, bytes-of d (λ i. (k .slice-known .given i) .fits)))
 
-two-requires : tie.Need-two-requires
-two-requires c κs =
-    let l = c .before .before in
+append-section-requires : tie.Need-append-section-requires
+append-section-requires c κs =
+    let l = c .before .before .before in
     let d = l .before .before .before .before .args .draft .now in
-    let k = header-standing d (sections-ended d (l .last-section .result) (l .last-section .ensures) (c .before .match .keys2) .0) in
-    omega (arith, k .head, k .there)
-
-append-or-fault-requires : tie.Need-append-or-fault-requires
-append-or-fault-requires c κs =
-    let l = c .before .before .before .before .before in
-    let k = l .before .before .before in
-    let a = k .before .args in
-    let d = a .draft .now in
-    let w = a .part .now in
-    let e = sections-ended d (l .last-section .result) (l .last-section .ensures) (c .before .before .before .before .match .keys2) in
-    let b = bytes-of d (λ i. (k .slice-known .given i) .fits) in
-    let n = c .before .before .two .ensures .0 in (
-      header-standing d (e .0),
-      λ f m r h. late-reads d w f b (bytes-of w (λ i. (l .before .before .slice-known2 .given i) .fits)) (e .0) m (e .1) r (omega (arith, h, n)),
-    )
+    sections-ended d (l .last-section .result) (l .last-section .ensures) (c .before .before .match .keys2)
 
 same-length-2 : tie.Need-same-length-2
 same-length-2 c = search needs
@@ -61,15 +43,15 @@ same-length-3 c = search needs
 
 returns-2 : tie.Need-returns-2
 returns-2 c =
-    let l = c .before .before .before .before .before .before .before .before .before .before in
+    let l = c .before .before .before .before .before .before .before .before in
     let k = l .before .before .before in
     let a = k .before .args in
     let d = a .draft .now in
     let w = a .part .now in
     let b = bytes-of d (λ i. (k .slice-known .given i) .fits) in
-    let e = sections-ended d (l .last-section .result) (l .last-section .ensures) (c .before .before .before .before .before .before .before .before .before .match .keys2) in
+    let e = sections-ended d (l .last-section .result) (l .last-section .ensures) (c .before .before .before .before .before .before .before .match .keys2) in
     let s = section-tried d w b (bytes-of w (λ i. (l .before .before .slice-known2 .given i) .fits)) (e .0) (e .1) in
-    let r = same-written d s (c .before .before .before .before .append-or-fault .ensures .0) (c .before .before .before .before .append-or-fault .ensures .1) in
+    let r = same-written d s (c .before .before .before .before .append-section .ensures .0) (c .before .before .before .before .append-section .ensures .1) in
     (r .0, (r .1, b))
 
 pub add-section-spec : {M : Type 1} → statement M
@@ -81,8 +63,7 @@ add-section-spec =
     read-draft-requires
     same-length
     returns
-    two-requires
-    append-or-fault-requires
+    append-section-requires
     same-length-2
     same-length-3
     returns-2)

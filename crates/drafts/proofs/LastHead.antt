@@ -1,0 +1,292 @@
+-- Where the longer draft is refused after the head of its last section, the draft reads up to that section's subsections: what
+-- is left of its reading is their own. Assumes nothing.
+use mathlib.Core.Path.{_≡_, refl, sym, ap, ap₂, _∙_, subst}
+use mathlib.Core.Bool.{Bool, true, false, not, _&&_, _||_}
+use mathlib.Core.List.{List, [], _∷_, _++_}
+use mathlib.Core.Option.{Option, none, some}
+use mathlib.Core.Logic.{_⊎_, ⊎-elim}
+use Prim.Native.Nat.{ℕ, suc, _+_, _-_, _≤_, _<_}
+use native.Mathlib.Omega.{arith}
+use lib.Dec.{eqb, leb}
+use lib.ListN.{length, take, drop, length-append, length-drop}
+use lib.Seq.{take-all, take-append-le, drop-append-le, length-take-le}
+use borrow.Author.Tests.{le-leb, eqb-true}
+use Rattle.format.specs.Bytes.{Bytes, number, bytesAt, allZero}
+use Rattle.format.specs.Layout.{Fields}
+use Rattle.format.specs.Slots.{least}
+use Rattle.format.specs.Parts.{Kind, rule, information, layout, sameKind, Part, external}
+use Rattle.format.specs.Rules.{check, checks, Section}
+use Rattle.format.specs.Reading.{Fault, fault, Outcome, refused, found, need, andThen, idOf, stated, sectionKind, partIn, tested, kindBefore, ruleBefore}
+use Rattle.format.specs.Reading.{sectionChecks, sectionRest, section, headerChecks, reading}
+use Rattle.format.specs.Writer.{writeAnswer, draftAfter}
+use Rattle.format.specs.declared.Answer.the-variants.{Refused}
+use Rattle.format.proofs.Finding.{and-join}
+use Rattle.format.proofs.Numbers.{bytes-take, bytes-drop}
+use Rattle.format.proofs.Grouping.{all-join}
+use Rattle.format.proofs.Tests.{Hold, refused-not, need-passed, tests-lead}
+use Rattle.format.proofs.Turns.{then-same, sectionsFrom, sections-from, sections-none, sections-more}
+use Rattle.format.proofs.Changes.{restate}
+use Rattle.contents.proofs.Headers.{lengths}
+use Rattle.drafts.specs.Adding.{grown, appended, holdsSubsections, holderKind, fixedFields}
+use Rattle.drafts.specs.Tiling.{LastAt, LastOpen}
+use Rattle.drafts.proofs.Tiling.{passed, passed-then}
+use Rattle.drafts.proofs.Stepping.{fixed-rule, fixed-other}
+use Rattle.drafts.proofs.Longer.{restate-long, grown-long}
+use Rattle.drafts.proofs.Restating.{behind-restated, restate-id, restate-stated, restate-bytes, id-taken}
+use Rattle.drafts.proofs.Refusals.{Late, sections-front, tests-late}
+use Rattle.drafts.proofs.SubsectionFronts.{grown-cut, before-last, last-bytes}
+use Rattle.drafts.proofs.Adding.{last-standing}
+use Rattle.drafts.proofs.Outcomes.{told-refused}
+use Rattle.drafts.proofs.Calls.{appended-refused}
+
+-- ---- the head with another length
+
+-- A field of the section, in the longer one.
+field-same : (m : ℕ) (z w : List ℕ) (p n : ℕ) → 4 ≤ p → p + n ≤ length z → bytesAt (restate 0 m z ++ w) p n ≡ bytesAt z p n
+unfolding bytesAt
+field-same m z w p n h k =
+    let l = restate-long 0 m z in
+    let e = length-drop p z in
+    ap (take n) (drop-append-le p (restate 0 m z) w (omega arith) ∙ ap (λ (y : List ℕ). y ++ w) (behind-restated p m z h))
+    ∙ take-append-le n (drop p z) w (omega arith)
+
+-- Its version.
+version-same : (m : ℕ) (z w : List ℕ) → 4 ≤ length z → bytesAt (restate 0 m z ++ w) 1 1 ≡ bytesAt z 1 1
+unfolding bytesAt
+version-same m [] w h = absurd (omega arith)
+version-same m (a ∷ []) w h = absurd (omega arith)
+version-same m (a ∷ b ∷ []) w h = absurd (omega arith)
+version-same m (a ∷ b ∷ c ∷ []) w h = absurd (omega arith)
+version-same m (a ∷ b ∷ c ∷ e ∷ bs) w h = refl
+
+cons : {a b : List ℕ} {fs gs : Fields} → a ≡ b → fs ≡ gs → (a ∷ fs) ≡ (b ∷ gs)
+cons e f = ap₂ (λ (x : List ℕ) (y : Fields). x ∷ y) e f
+
+-- The head's tests pass in the section where they pass in the longer one.
+rule-head : (x seen : Bool) (ss : List Section) (m : ℕ) (z w : List ℕ) → 20 ≤ length z → stated z ≡ length z
+    → Hold (sectionChecks x rule seen (ruleBefore (partIn rule (restate 0 m z ++ w)) ss) (restate 0 m z ++ w))
+    → Hold (sectionChecks x rule seen (ruleBefore (partIn rule z) ss) z)
+rule-head x seen ss m z w l e h =
+    let same : partIn rule (restate 0 m z ++ w) ≡ partIn rule z =
+    ap (λ (fs : Fields). record { kind = rule; fields = fs })
+    (cons (field-same m z w 4 8 (omega arith) (omega arith))
+    (cons (field-same m z w 12 4 (omega arith) (omega arith))
+    (cons (field-same m z w 16 1 (omega arith) (omega arith))
+    (cons (field-same m z w 17 1 (omega arith) (omega arith))
+    (cons (field-same m z w 18 1 (omega arith) (omega arith))
+    (cons (field-same m z w 19 1 (omega arith) (omega arith)) refl)))))) in (
+      ap allZero (sym (version-same m z w (omega arith))) ∙ h .0,
+      (
+        and-join _ _ (le-leb (least (layout rule)) (stated z) (omega arith)) (le-leb (stated z) (length z) (omega arith)),
+        (
+          h .1 .1 .0,
+          (
+            refl,
+            subst (λ (q : Part). Hold (checks x rule (q .fields) ++ (check 3 9 (not (sameKind rule rule && ruleBefore q ss)) ∷ []))) same (h .1 .1 .1 .1),
+          ),
+        ),
+      ),
+    )
+
+information-head : (x seen : Bool) (ss : List Section) (m : ℕ) (z w : List ℕ) → 10 ≤ length z → stated z ≡ length z
+    → Hold (sectionChecks x information seen (ruleBefore (partIn information (restate 0 m z ++ w)) ss) (restate 0 m z ++ w))
+    → Hold (sectionChecks x information seen (ruleBefore (partIn information z) ss) z)
+information-head x seen ss m z w l e h =
+    let same : partIn information (restate 0 m z ++ w) ≡ partIn information z =
+    ap (λ (fs : Fields). record { kind = information; fields = fs }) (cons (field-same m z w 6 4 (omega arith) (omega arith)) refl) in (
+      ap allZero (sym (version-same m z w (omega arith))) ∙ h .0,
+      (
+        and-join _ _ (le-leb (least (layout information)) (stated z) (omega arith)) (le-leb (stated z) (length z) (omega arith)),
+        (
+          h .1 .1 .0,
+          (
+            refl,
+            (
+              ap allZero (sym (field-same m z w 4 2 (omega arith) (omega arith))) ∙ h .1 .1 .1 .1 .0,
+              subst (λ (q : Part). Hold (checks x information (q .fields) ++ (check 3 9 (not (sameKind rule information && ruleBefore q ss)) ∷ []))) same (h .1 .1 .1 .1 .1),
+            ),
+          ),
+        ),
+      ),
+    )
+
+-- ---- the last section
+
+-- A section of kind k at the front of r: its tests, and then the rest of it.
+known : (x : Bool) (k : Kind) (ss : List Section) (at : ℕ) (r : List ℕ) → 4 ≤ length r → sectionKind (idOf r) ≡ some k
+    → section false x ss at r ≡ tested at (sectionChecks x k (kindBefore k ss) (ruleBefore (partIn k r) ss) r) (sectionRest false x k at r)
+unfolding section
+known x k ss at r h q =
+    need-passed (leb 4 (length r)) (fault 6 at 0) _ (le-leb 4 (length r) h)
+    ∙ ap (λ (o : Option Kind). elim o as (λ y. Outcome Section) [
+      | none ↦ refused (fault 7 at 0)
+      | some j ↦ tested at (sectionChecks x j (kindBefore j ss) (ruleBefore (partIn j r) ss) r) (sectionRest false x j at r)
+    ]) q
+
+-- One section that is all that is left.
+alone : (x : Bool) (ss : List Section) (at : ℕ) (r : List ℕ) → 4 ≤ length r → stated r ≡ length r
+    → sectionsFrom false x ss at r ≡ andThen (section false x ss at r) (λ s. found (ss ++ s ∷ []))
+unfolding need
+alone x ss at r h e =
+    sections-more false x ss at r (omega arith)
+    ∙ then-same (section false x ss at r) _ _
+    (λ s q.
+    let l = length-drop (stated r) r in
+    sections-none false x (ss ++ s ∷ []) (at + stated r) (drop (stated r) r) (omega arith))
+
+-- The longer section is refused after its head: the head passes in both, and what is left of the section is its rest.
+pub rest-left : (x : Bool) (k : Kind) (ss : List Section) (at m : ℕ) (z w : List ℕ) (f : Fault) → 4 ≤ length z → stated z ≡ length z
+    → m ≡ length z + length w → m < 65536 → sectionKind (idOf z) ≡ some k
+    → (Hold (sectionChecks x k (kindBefore k ss) (ruleBefore (partIn k (restate 0 m z ++ w)) ss) (restate 0 m z ++ w))
+    → Hold (sectionChecks x k (kindBefore k ss) (ruleBefore (partIn k z) ss) z))
+    → sectionsFrom false x ss at (restate 0 m z ++ w) ≡ refused f → at < f .part
+    → sectionsFrom false x ss at z ≡ andThen (sectionRest false x k at z) (λ s. found (ss ++ s ∷ []))
+unfolding andThen
+rest-left x k ss at m z w f four same em small kind heads e late =
+    let r : List ℕ = restate 0 m z ++ w in
+    let lr = restate-long 0 m z in
+    let la = length-append (restate 0 m z) w in
+    let st : stated r ≡ m = restate-stated m z w four small in
+    let id : sectionKind (idOf r) ≡ some k = ap sectionKind (restate-id m z w four) ∙ kind in
+    let one : andThen (section false x ss at r) (λ s. found (ss ++ s ∷ [])) ≡ refused f = sym (alone x ss at r (omega arith) (omega arith)) ∙ e in
+    let own : section false x ss at z ≡ tested at (sectionChecks x k (kindBefore k ss) (ruleBefore (partIn k z) ss) z) (sectionRest false x k at z) =
+    known x k ss at z four kind in
+    let tests = tests-late at (sectionChecks x k (kindBefore k ss) (ruleBefore (partIn k r) ss) r) (sectionRest false x k at r) f
+    (sym (known x k ss at r (omega arith) id) ∙ refusal (section false x ss at r) one) in
+    let hold = ⊎-elim (λ q. absurd (omega arith)) (λ q. q .0) tests in
+    alone x ss at z four same ∙ ap (λ (o : Outcome Section). andThen o (λ s. found (ss ++ s ∷ []))) (own ∙ tests-lead at _ _ (heads hold))
+  where
+    inside : {g : Fault} → _≡_ {A = Outcome (List Section)} (refused g) (refused f) → g ≡ f
+    inside q = cc
+
+    refusal : (o : Outcome Section) → andThen o (λ s. found (ss ++ s ∷ [])) ≡ refused f → o ≡ refused f
+    refusal (refused g) q = ap refused (inside q)
+    refusal (found s) q = absurd (refused-not (sym q))
+
+-- Sections 12 and 14: the kind of their id, and their heads' tests.
+holder : (x : Bool) (ss : List Section) (i m : ℕ) (z w : List ℕ) → holdsSubsections i ≡ true → idOf z ≡ i → fixedFields i ≤ length z → stated z ≡ length z
+    → (sectionKind (idOf z) ≡ some (holderKind i))
+    × (Hold (sectionChecks x (holderKind i) (kindBefore (holderKind i) ss) (ruleBefore (partIn (holderKind i) (restate 0 m z ++ w)) ss) (restate 0 m z ++ w))
+    → Hold (sectionChecks x (holderKind i) (kindBefore (holderKind i) ss) (ruleBefore (partIn (holderKind i) z) ss) z))
+holder x ss i m z w hs id l e = go (eqb i 0x12) refl
+  where
+    go : (b : Bool) → eqb i 0x12 ≡ b
+        → (sectionKind (idOf z) ≡ some (elim b as (λ v. Kind) [ true ↦ rule | false ↦ information ]))
+        × (Hold (sectionChecks x (elim b as (λ v. Kind) [ true ↦ rule | false ↦ information ]) (kindBefore (elim b as (λ v. Kind) [ true ↦ rule | false ↦ information ]) ss) (ruleBefore (partIn (elim b as (λ v. Kind) [ true ↦ rule | false ↦ information ]) (restate 0 m z ++ w)) ss) (restate 0 m z ++ w))
+        → Hold (sectionChecks x (elim b as (λ v. Kind) [ true ↦ rule | false ↦ information ]) (kindBefore (elim b as (λ v. Kind) [ true ↦ rule | false ↦ information ]) ss) (ruleBefore (partIn (elim b as (λ v. Kind) [ true ↦ rule | false ↦ information ]) z) ss) z))
+    go true q =
+        let n = eqb-true i 0x12 q in
+        let k = fixed-rule n in
+        (ap sectionKind (id ∙ n), rule-head x (kindBefore rule ss) ss m z w (omega arith) e)
+    go false q =
+        let n = eqb-true i 0x14 (sym (ap (λ (v : Bool). v || eqb i 0x14) q) ∙ hs) in
+        let k : 10 ≡ fixedFields i = fixed-other (λ (y : i ≡ 18). omega arith) in
+        (ap sectionKind (id ∙ n), information-head x (kindBefore information ss) ss m z w (omega arith) e)
+
+-- ---- the draft
+
+-- What is left of the draft's reading is the rest of its last section.
+pub last-left : (d w : List ℕ) (o i : ℕ) (f : Fault) → Bytes d → Bytes w → Hold (headerChecks false d) → stated d + length w ≤ 3500
+    → LastAt (take (stated d) d) 8 o → idOf (drop o d) ≡ i → holdsSubsections i ≡ true → o + fixedFields i ≤ stated d
+    → reading false (grown d o w) ≡ refused f → o < f .part
+    → (ss : List Section) × (reading false d ≡ andThen (sectionRest false (external (idOf d)) (holderKind i) o (drop o (take (stated d) d))) (λ s. found (ss ++ s ∷ [])))
+unfolding reading
+last-left d w o i f b c h most la id hs fx e late =
+    let D : List ℕ = take (stated d) d in
+    let z : List ℕ = drop o D in
+    let n : ℕ = stated d + length w in
+    let m : ℕ = stated (drop o d) + length w in
+    let g : List ℕ = grown d o w in
+    let Y : List ℕ = restate 0 m z ++ w in
+    let x : Bool = external (idOf d) in
+    let k = lengths false d h in
+    let front = la .front in
+    let t = la .tiled in
+    let v = last-bytes d o (k .within) la in
+    let long = v .long in
+    let four = v .four in
+    let states = v .states in
+    let same = v .same in
+    let ld = length-take-le (stated d) d (k .within) in
+    let lo = length-take-le o D (omega arith) in
+    let lg = grown-long d o w (last-standing d o h la) in
+    let cut = grown-cut d w o front (omega arith) (k .within) in
+    let idg : idOf g ≡ idOf d = ap idOf cut ∙ restate-id n (take o D) Y (omega arith) ∙ id-taken D o (omega arith) ∙ id-taken d (stated d) (omega arith) in
+    let st : stated g ≡ n = ap stated cut ∙ restate-stated n (take o D) Y (omega arith) (omega arith) in
+    let lt = restate-long 0 n (take o D) in
+    let before = before-last D o (passed t) front (omega arith) (passed-then t) in
+    let lb = ap length before in
+    let l8 = length-drop 8 (take o D) in
+    let place : 8 + length (passed t) ≡ o = omega arith in
+    let body : drop 8 (take (stated g) g) ≡ passed t ++ Y =
+    ap (drop 8) (take-all (stated g) g (omega arith) ∙ cut)
+    ∙ drop-append-le 8 (restate 0 n (take o D)) Y (omega arith)
+    ∙ ap (λ (y : List ℕ). y ++ Y) (behind-restated 8 n (take o D) (omega arith) ∙ before) in
+    let lbody = ap length body in
+    let ly = length-append (passed t) Y in
+    let lz = restate-long 0 m z in
+    let lw = length-append (restate 0 m z) w in
+    ⊎-elim
+    (λ q. absurd (omega arith))
+    (λ q.
+    let from : sectionsFrom false x [] 8 (passed t ++ Y) ≡ refused f =
+    sym (sections-from (suc (stated g)) false (external (idOf g)) [] 8 (drop 8 (take (stated g) g)) (omega arith)
+    ∙ ap₂ (λ (j : ℕ) (y : List ℕ). sectionsFrom false (external j) [] 8 y) idg body)
+    ∙ q .1 in
+    let bD = bytes-take (stated d) d b in
+    let by = all-join (λ (y : ℕ). y < 256) (passed t) Y
+    (subst Bytes before (bytes-drop 8 (take o D) (bytes-take o D bD)))
+    (all-join (λ (y : ℕ). y < 256) (restate 0 m z) w (restate-bytes 0 m z (bytes-drop o D bD)) c) in
+    let r = sections-front x Y t [] 8 by (omega arith) (subst (Late (8 + length (passed t))) (sym from) (omega arith)) in
+    let hold = holder x (r .0) i m z w hs (v .id ∙ id) (omega arith) states in
+    let rest = rest-left x (holderKind i) (r .0) (8 + length (passed t)) m z w f four states (omega arith) (omega arith) (hold .0) (hold .1)
+    (sym (r .1 Y) ∙ from) (omega arith) in (
+      r .0,
+      tests-lead 0 (headerChecks false d) _ h
+          ∙ sections-from (suc (stated d)) false x [] 8 (drop 8 D) (let l = length-drop 8 D in omega arith)
+          ∙ ap (sectionsFrom false x [] 8) (passed-then t)
+          ∙ r .1 z
+          ∙ rest
+          ∙ ap (λ (j : ℕ). andThen (sectionRest false x (holderKind i) j z) (λ s. found (r .0 ++ s ∷ []))) place,
+    ))
+    (tests-late 0 (headerChecks false g) _ f e)
+
+-- ---- what the call finds
+
+module _ (d w : List ℕ) (o i : ℕ) (b : Bytes d) (c : Bytes w) (l : LastOpen d i o) where
+  -- The draft after a refusal, as it was, and its bytes.
+  same-bytes : {number at n : ℕ} {new : List ℕ} → Refused number at ≡ writeAnswer (appended d o w) → n ≡ stated d → new ≡ draftAfter (appended d o w) d
+      → take n new ≡ take (stated d) d
+  same-bytes a en s =
+      let t = told-refused length (appended d o w) a in
+      ap₂ (λ (n : ℕ) (y : List ℕ). take n y) en (s ∙ ap (λ (y : Outcome (List ℕ)). draftAfter y d) (t .is))
+
+  -- Its last section is there to be read.
+  pub last-asked : {number at n : ℕ} {new : List ℕ} → Refused number at ≡ writeAnswer (appended d o w) → n ≡ stated d → new ≡ draftAfter (appended d o w) d
+      → (o + fixedFields i ≤ length (take n new)) × (length (take n new) ≤ 3500) × (length (take n new) ≡ o + stated (drop o (take n new)))
+  last-asked a en s =
+      let D : List ℕ = take (stated d) d in
+      let k = lengths false d (l .header) in
+      let ld = length-take-le (stated d) d (k .within) in
+      let f = l .fixed in
+      let m = k .most in
+      subst (λ (y : List ℕ). (o + fixedFields i ≤ length y) × (length y ≤ 3500) × (length y ≡ o + stated (drop o y))) (sym (same-bytes a en s))
+      (omega arith, omega arith, sym (l .last .ends))
+
+  -- Where the refusal comes after the section's head, what is left of the draft's reading is the rest of that section.
+  pub left : {number at n : ℕ} {new : List ℕ} → Refused number at ≡ writeAnswer (appended d o w) → (number ≡ 23 → ⊥) → o < at → n ≡ stated d
+      → new ≡ draftAfter (appended d o w) d
+      → (ss : List Section)
+      × (reading false d ≡ andThen (sectionRest false (external (idOf (take n new))) (holderKind i) o (drop o (take n new))) (λ s. found (ss ++ s ∷ [])))
+  left {number} {at} {n} {new} a other late en s =
+      let f = appended-refused d o w a other in
+      let place = f .1 .1 .1 in
+      let r = last-left d w o i (f .1 .0) b c (l .header) (f .0) (l .last) (l .id) (l .holds) (l .fixed) (f .1 .1 .0) (omega arith) in
+      let k = lengths false d (l .header) in
+      let least = k .least in
+      let same = same-bytes a en s in
+      let id : idOf (take n new) ≡ idOf d = ap idOf same ∙ id-taken d (stated d) (omega arith) in (
+        r .0,
+        r .1
+            ∙ ap₂ (λ (j : ℕ) (y : List ℕ). andThen (sectionRest false (external j) (holderKind i) o (drop o y)) (λ t. found (r .0 ++ t ∷ []))) (sym id) (sym same),
+      )
