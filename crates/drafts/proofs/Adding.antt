@@ -33,7 +33,7 @@ use Rattle.drafts.proofs.Additions.{last-behind, id-known}
 use Rattle.drafts.proofs.Tiling.{laid, laid-tiled, tiled-last}
 use Rattle.drafts.proofs.LaidSections.{Laid, last-read, sectionBytes, subBytes, subs-laid, subs-state, draft-laid}
 use Rattle.drafts.proofs.Calls.{kept, own-first, appended-passed, id-at}
-use Rattle.drafts.proofs.Fronts.{section-front}
+use Rattle.drafts.proofs.Refusals.{Late, front-read}
 use Rattle.drafts.proofs.SubsectionFronts.{sub-front, head-fixed, section-id, last-bytes}
 
 -- ---- the walk over the parts
@@ -77,7 +77,7 @@ pub section-tried : (d w : List ℕ) → Bytes d → Bytes w → Hold (headerChe
 unfolding sectionAdded
 section-tried d w b c h t =
     own-first d (appended d 0 w)
-    (λ bs e. let p = appended-passed d 0 w bs e in section-front d w (p .1 .0) b c h (p .0) t (p .1 .1))
+    (λ bs e. let p = appended-passed d 0 w bs e in front-read d w b c h (p .0) t (subst (Late (stated d)) (sym (p .1 .1)) tt))
 
 -- ---- a subsection
 

@@ -1,7 +1,7 @@
--- Where the longer draft reads, and the draft's own parts end where it does, the draft reads. Assumes nothing.
+-- A draft that holds the first parts of a lawful choice reads; what is known of a longer draft that reads. Assumes nothing.
 use mathlib.Core.Path.{_≡_, sym, ap, _∙_, subst}
 use mathlib.Core.Bool.{false}
-use mathlib.Core.List.{List, _++_, append-nil}
+use mathlib.Core.List.{List, _++_}
 use Prim.Native.Nat.{ℕ, _+_, _≤_, _<_}
 use native.Mathlib.Omega.{arith}
 use lib.ListN.{length, take, drop, take-append-drop}
@@ -13,9 +13,8 @@ use Rattle.format.specs.Legal.{Lawful}
 use Rattle.format.specs.Reading.{found, idOf, stated, headerChecks, reading, partsOf}
 use Rattle.format.proofs.Numbers.{bytes-take}
 use Rattle.format.proofs.Tests.{Hold}
-use Rattle.format.proofs.Grouping.{all-join, all-split}
+use Rattle.format.proofs.Grouping.{all-join}
 use Rattle.format.proofs.Sound.{GoodSection}
-use Rattle.format.proofs.Flat.{grouped}
 use Rattle.format.proofs.Header.{header-written, written-front}
 use Rattle.format.proofs.Accepted.{reading-sound, good-choice, good-lawful}
 use Rattle.format.proofs.Beginnings.{choice-front, lawful-front}
@@ -23,13 +22,10 @@ use Rattle.format.proofs.Writing.{draft-of}
 use Rattle.format.proofs.Changes.{restate}
 use Rattle.contents.proofs.Headers.{lengths}
 use Rattle.drafts.specs.Adding.{grown, Reads}
-use Rattle.drafts.specs.Tiling.{Tiled}
-use Rattle.drafts.proofs.Tiling.{States, laid, passed, passed-then, cut-at}
-use Rattle.drafts.proofs.Sections.{parts-join}
-use Rattle.drafts.proofs.LaidSections.{sectionBytes, sections-laid, draft-laid}
-use Rattle.drafts.proofs.Longer.{restate-long, grown-long}
-use Rattle.drafts.proofs.Restating.{behind-restated, restate-id, restate-stated, restate-over, restate-bytes, id-taken}
-use Rattle.drafts.proofs.Whole.{header-standing}
+use Rattle.drafts.proofs.Tiling.{States, laid}
+use Rattle.drafts.proofs.LaidSections.{sectionBytes, draft-laid}
+use Rattle.drafts.proofs.Longer.{restate-long}
+use Rattle.drafts.proofs.Restating.{behind-restated, restate-id, restate-stated, restate-bytes}
 
 -- ---- the first parts of a choice
 
@@ -84,25 +80,3 @@ grown-bytes d o w b c =
     let E : List ℕ = restate 0 (stated d + length w) D in
     let m : ℕ = stated (drop o d) + length w in
     all-join (λ (x : ℕ). x < 256) (restate o m E) w (restate-bytes o m E (restate-bytes 0 (stated d + length w) D (bytes-take (stated d) d b))) c
-
--- ---- a section added
-
-module _ (d w : List ℕ) (ts : List Section) (b : Bytes d) (c : Bytes w) (h : Hold (headerChecks false d)) (m : stated d + length w ≤ 3500) where
-  pub section-front : Tiled (drop 8 (take (stated d) d)) → reading false (grown d 0 w) ≡ found ts → Reads d
-  section-front t e =
-      let i : ℕ = idOf d in
-      let D : List ℕ = take (stated d) d in
-      let n : ℕ = stated d + length w in
-      let k = lengths false d h in
-      let s = header-standing d h in
-      let ld = length-take-le (stated d) d (k .within) in
-      let least = k .least in
-      let r = longer-read i n (grown d 0 w) D w ts (ap (λ (y : List ℕ). y ++ w) (restate-over n n D)) (omega arith) (id-taken d (stated d) (omega arith))
-      (grown-long d 0 w s) m (grown-bytes d 0 w b c) e in
-      let all : drop 8 D ≡ passed t = passed-then t ∙ append-nil (passed t) in
-      let x = cut-at sectionBytes t ts w (r .states) (ap (λ (y : List ℕ). y ++ w) (sym all) ∙ r .body) in
-      let good = all-split (GoodSection false (external i)) (x .front) (x .back) (subst (All (GoodSection false (external i))) (x .whole) (r .each)) in
-      let parts : partsOf ts ≡ partsOf (x .front) ++ partsOf (x .back) = ap partsOf (x .whole) ∙ parts-join (x .front) (x .back) in
-      front-reads d (partsOf (x .front)) (partsOf (x .back)) b h
-      (subst (Choice i) parts (r .choice)) (subst (Lawful i) parts (r .lawful))
-      (sections-laid (x .front) (grouped false (external i) (x .front) (good .0)) ∙ sym (x .fronts) ∙ sym all)

@@ -33,7 +33,7 @@ pub sections-laid : (ss : List Section) → All Grouped ss → writeParts (parts
 sections-laid [] h = refl
 sections-laid (t ∷ us) h = section-then t us (h .1) ∙ ap (λ (y : List ℕ). sectionBytes t ++ y) (sections-laid us (h .1))
 
-pub section-states : (full x : Bool) (t : Section) → GoodSection full x t → length (sectionBytes t) < 256 ^ 2 → States (sectionBytes t)
+section-states : (full x : Bool) (t : Section) → GoodSection full x t → length (sectionBytes t) < 256 ^ 2 → States (sectionBytes t)
 section-states full x t g h =
     let l = section-long t (g .head, subs-of x (t .head .kind) (t .subs) (g .subs)) in
     let s = span-section (t .head) (t .subs) (g .head) in
@@ -43,7 +43,7 @@ section-states full x t g h =
       says = part-stated (t .head) (span (t .head) (t .subs)) (sectionBytes t) (writeParts (t .subs)) (omega arith) (g .part .fit) refl ∙ sym l;
     }
 
-pub sections-state : (full x : Bool) (ss : List Section) → All (GoodSection full x) ss → length (laid sectionBytes ss) < 256 ^ 2
+sections-state : (full x : Bool) (ss : List Section) → All (GoodSection full x) ss → length (laid sectionBytes ss) < 256 ^ 2
     → All (λ t. States (sectionBytes t)) ss
 sections-state full x [] g h = tt
 sections-state full x (t ∷ us) g h =

@@ -135,7 +135,7 @@ alone x ss at r h e =
     sections-none false x (ss ++ s ∷ []) (at + stated r) (drop (stated r) r) (omega arith))
 
 -- The longer section is refused after its head: the head passes in both, and what is left of the section is its rest.
-pub rest-left : (x : Bool) (k : Kind) (ss : List Section) (at m : ℕ) (z w : List ℕ) (f : Fault) → 4 ≤ length z → stated z ≡ length z
+rest-left : (x : Bool) (k : Kind) (ss : List Section) (at m : ℕ) (z w : List ℕ) (f : Fault) → 4 ≤ length z → stated z ≡ length z
     → m ≡ length z + length w → m < 65536 → sectionKind (idOf z) ≡ some k
     → (Hold (sectionChecks x k (kindBefore k ss) (ruleBefore (partIn k (restate 0 m z ++ w)) ss) (restate 0 m z ++ w))
     → Hold (sectionChecks x k (kindBefore k ss) (ruleBefore (partIn k z) ss) z))
@@ -186,7 +186,7 @@ holder x ss i m z w hs id l e = go (eqb i 0x12) refl
 -- ---- the draft
 
 -- What is left of the draft's reading is the rest of its last section.
-pub last-left : (d w : List ℕ) (o i : ℕ) (f : Fault) → Bytes d → Bytes w → Hold (headerChecks false d) → stated d + length w ≤ 3500
+last-left : (d w : List ℕ) (o i : ℕ) (f : Fault) → Bytes d → Bytes w → Hold (headerChecks false d) → stated d + length w ≤ 3500
     → LastAt (take (stated d) d) 8 o → idOf (drop o d) ≡ i → holdsSubsections i ≡ true → o + fixedFields i ≤ stated d
     → reading false (grown d o w) ≡ refused f → o < f .part
     → (ss : List Section) × (reading false d ≡ andThen (sectionRest false (external (idOf d)) (holderKind i) o (drop o (take (stated d) d))) (λ s. found (ss ++ s ∷ [])))

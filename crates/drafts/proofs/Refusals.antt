@@ -1,5 +1,5 @@
--- Where the longer draft is refused at the draft's end or after it, and the draft's sections end where it does, the draft
--- reads. Assumes nothing.
+-- Where the longer draft reads, or is refused at the draft's end or after it, and the draft's sections end where it does, the
+-- draft reads. Assumes nothing.
 use mathlib.Core.Path.{_≡_, refl, sym, ap, ap₂, _∙_, subst}
 use mathlib.Core.Bool.{Bool, true, false}
 use mathlib.Core.List.{List, [], _∷_, _++_, append-assoc, append-nil}
@@ -130,13 +130,25 @@ tests-late {A} at (c ∷ cs) rest f e = go (c .holds) refl (λ q. tests-late at 
     go true p more q = ⊎-elim (λ u. inl u) (λ u. inr ((p, u .0), u .1)) (more q)
     go false p more q = inl cc
 
-pub late-reads : (d w : List ℕ) (f : Fault) → Bytes d → Bytes w → Hold (headerChecks false d) → stated d + length w ≤ 3500
-    → Tiled (drop 8 (take (stated d) d)) → reading false (grown d 0 w) ≡ refused f → stated d ≤ f .part → Reads d
+-- Tests at a place before e: nothing is refused by them either.
+tests-gone : (e at : ℕ) (cs : List Check) (rest : Outcome (List Section)) → at < e → Late e (tested at cs rest) → Late e rest
+unfolding tested need
+tests-gone e at [] rest h l = l
+tests-gone e at (c ∷ cs) rest h l = go (c .holds) (λ k. tests-gone e at cs rest h k) l
+  where
+    go : (b : Bool) → (Late e (tested at cs rest) → Late e rest) → Late e (need b (fault (c .refusal) at (c .field)) (tested at cs rest)) → Late e rest
+    go true more k = more k
+    go false more k = absurd (omega arith)
+
+-- Where the longer draft reads, or is refused at the draft's end or after it, the draft reads.
+pub front-read : (d w : List ℕ) → Bytes d → Bytes w → Hold (headerChecks false d) → stated d + length w ≤ 3500
+    → Tiled (drop 8 (take (stated d) d)) → Late (stated d) (reading false (grown d 0 w)) → Reads d
 unfolding reading need
-late-reads d w f b c h m t e late =
+front-read d w b c h m t l =
     let D : List ℕ = take (stated d) d in
     let n : ℕ = stated d + length w in
     let g : List ℕ = grown d 0 w in
+    let x : Bool = external (idOf d) in
     let k = lengths false d h in
     let least = k .least in
     let ld = length-take-le (stated d) d (k .within) in
@@ -146,30 +158,25 @@ late-reads d w f b c h m t e late =
     let id : idOf g ≡ idOf d = ap idOf form ∙ restate-id n D w (omega arith) ∙ id-taken d (stated d) (omega arith) in
     let st : stated g ≡ n = ap stated form ∙ restate-stated n D w (omega arith) (omega arith) in
     let lr = restate-long 0 n D in
-    let body : drop 8 (take (stated g) g) ≡ drop 8 D ++ w =
-    ap (drop 8) (take-all (stated g) g (omega arith) ∙ form)
-    ∙ drop-append-le 8 (restate 0 n D) w (omega arith)
-    ∙ ap (λ (y : List ℕ). y ++ w) (behind-restated 8 n D (omega arith)) in
-    let lb = ap length body in
-    let lw = length-append (drop 8 D) w in
-    ⊎-elim
-    (λ z. absurd (omega arith))
-    (λ q.
-    let from : sectionsFrom false (external (idOf d)) [] 8 (drop 8 D ++ w) ≡ refused f =
-    sym (sections-from (suc (stated g)) false (external (idOf g)) [] 8 (drop 8 (take (stated g) g)) (omega arith)
-    ∙ ap₂ (λ (i : ℕ) (y : List ℕ). sectionsFrom false (external i) [] 8 y) id body)
-    ∙ q .1 in
-    let bD = bytes-take (stated d) d b in
     let all : drop 8 D ≡ passed t = passed-then t ∙ append-nil (passed t) in
     let la = ap length all in
-    let r = sections-front (external (idOf d)) w t [] 8
-    (subst (λ (y : List ℕ). Bytes (y ++ w)) all (all-join (λ (y : ℕ). y < 256) (drop 8 D) w (bytes-drop 8 D bD) c)) (omega arith)
-    (subst (Late (8 + length (passed t))) (sym (ap (λ (y : List ℕ). sectionsFrom false (external (idOf d)) [] 8 (y ++ w)) (sym all) ∙ from)) (omega arith)) in (
+    let body : drop 8 (take (stated g) g) ≡ passed t ++ w =
+    ap (drop 8) (take-all (stated g) g (omega arith) ∙ form)
+    ∙ drop-append-le 8 (restate 0 n D) w (omega arith)
+    ∙ ap (λ (y : List ℕ). y ++ w) (behind-restated 8 n D (omega arith) ∙ all) in
+    let lb = ap length body in
+    let lw = length-append (passed t) w in
+    let from = sections-from (suc (stated g)) false (external (idOf g)) [] 8 (drop 8 (take (stated g) g)) (omega arith)
+    ∙ ap₂ (λ (i : ℕ) (y : List ℕ). sectionsFrom false (external i) [] 8 y) id body in
+    let end : stated d ≡ 8 + length (passed t) = omega arith in
+    let late = subst (λ (e : ℕ). Late e (sectionsFrom false x [] 8 (passed t ++ w))) end
+    (subst (Late (stated d)) from (tests-gone (stated d) 0 (headerChecks false g) _ (omega arith) l)) in
+    let r = sections-front x w t [] 8
+    (all-join (λ (y : ℕ). y < 256) (passed t) w (subst Bytes all (bytes-drop 8 D (bytes-take (stated d) d b))) c) (omega arith) late in (
       r .0,
       tests-lead 0 (headerChecks false d) _ h
-          ∙ sections-from (suc (stated d)) false (external (idOf d)) [] 8 (drop 8 D) (omega arith)
-          ∙ ap (sectionsFrom false (external (idOf d)) [] 8) (all ∙ sym (append-nil (passed t)))
+          ∙ sections-from (suc (stated d)) false x [] 8 (drop 8 D) (omega arith)
+          ∙ ap (sectionsFrom false x [] 8) (all ∙ sym (append-nil (passed t)))
           ∙ r .1 []
-          ∙ sections-none false (external (idOf d)) (r .0) (8 + length (passed t)) [] refl,
-    ))
-    (tests-late 0 (headerChecks false g) _ f e)
+          ∙ sections-none false x (r .0) (8 + length (passed t)) [] refl,
+    )

@@ -56,7 +56,7 @@ head-fixed p i f fit e h =
     let same = or-else _ _ (every-kind (λ j. not (holdsSubs j) || eqb (least (layout j)) (fixedFields (sectionId j))) refl k) (ap not s) in
     sym made ∙ fixed-made k r s ∙ eqb-true (least (layout k)) (fixedFields (sectionId k)) same ∙ ap fixedFields e
 
-pub fixed-four : (i : ℕ) → 4 ≤ fixedFields i
+fixed-four : (i : ℕ) → 4 ≤ fixedFields i
 fixed-four i = go (eqb i 0x12)
   where
     go : (b : Bool) → 4 ≤ elim b as (λ x. ℕ) [ true ↦ 20 | false ↦ 10 ]

@@ -1,11 +1,12 @@
 -- What appending gives; its refusal gives way to the draft's own fault, and there is none where it comes at the draft's end.
-use mathlib.Core.Path.{sym, _∙_}
+use mathlib.Core.Path.{sym, subst, _∙_}
 use native.Mathlib.Omega.{arith}
+use Rattle.format.specs.Reading.{stated}
 use Rattle.reading.proofs.Filled.{bytes-of}
 use Rattle.drafts.specs.Adding.{appended}
 use Rattle.drafts.proofs.Whole.{header-standing}
 use Rattle.drafts.proofs.Calls.{own-refused, own-late, own-found, appended-refused}
-use Rattle.drafts.proofs.Refusals.{late-reads}
+use Rattle.drafts.proofs.Refusals.{Late, front-read}
 use borrow.Author.Needs.{needs}
 use Rattle.drafts.proofs.append_section.Statement.{statement}
 use Rattle.drafts.proofs.append_section.Tie as tie
@@ -82,8 +83,8 @@ returns-3 c =
     let h = c .if2 .left in
     let at = f .1 .1 .1 in
     own-late d 0 w
-    (late-reads d w (f .1 .0) (bytes-of d (λ i. (c .before .before .before .before .before .before .before .before .before .before .before .before .before .before .before .slice-known .given i) .fits)) (bytes-of w (λ i. (c .before .before .before .before .before .before .before .before .before .before .before .before .before .before .slice-known2 .given i) .fits))
-    (s .pre .0) (f .0) (s .pre .1) (f .1 .1 .0) (omega arith))
+    (front-read d w (bytes-of d (λ i. (c .before .before .before .before .before .before .before .before .before .before .before .before .before .before .before .slice-known .given i) .fits)) (bytes-of w (λ i. (c .before .before .before .before .before .before .before .before .before .before .before .before .before .before .slice-known2 .given i) .fits))
+    (s .pre .0) (f .0) (s .pre .1) (subst (Late (stated d)) (sym (f .1 .1 .0)) (omega arith)))
     a (p .append .ensures .1)
 
 same-length-7 : tie.Need-same-length-7
