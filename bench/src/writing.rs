@@ -55,6 +55,9 @@ pub fn measure_all() {
     println!("the same for a rule whose ID stands before: refused by 9");
     measure_refusal("library", &last_rule, &LIBRARY);
     measure_refusal("Rust", &last_rule, &RUST);
+    println!("the same for a subsection whose tag stands before in the last rule: refused by 14");
+    measure_refused_subsection("library", &last_rule, &LIBRARY);
+    measure_refused_subsection("Rust", &last_rule, &RUST);
 }
 
 /// Builds a token from its parts; gives what the finish answers.
@@ -137,6 +140,16 @@ fn measure_refusal(name: &str, token: &[u8], by: &Writer) {
     let mut addition = Addition::new(token);
     addition.part = parts.pop().expect("a rule");
     assert_eq!(addition.again(by), Answer::new(9, addition.length));
+    measure_beside(name, addition, by);
+}
+
+/// A subsection added twice to the last rule of a token, the second time.
+fn measure_refused_subsection(name: &str, token: &[u8], by: &Writer) {
+    let mut addition = Addition::new(token);
+    addition.again(by);
+    addition.part = Part::TransportVariant { variant: vec![] };
+    addition.length = (by.add)(&mut addition.draft, &addition.part).second as usize;
+    assert_eq!(addition.again(by), Answer::new(14, addition.length));
     measure_beside(name, addition, by);
 }
 
