@@ -17,10 +17,10 @@ use Rattle.format.specs.Slots.{least}
 use Rattle.format.specs.Parts.{Kind, rule, information, layout, sameKind, Part, external}
 use Rattle.format.specs.Rules.{check, checks, Section}
 use Rattle.format.specs.Reading.{Fault, fault, Outcome, refused, found, need, andThen, idOf, stated, sectionKind, partIn, tested, kindBefore, ruleBefore}
-use Rattle.format.specs.Reading.{sectionChecks, sectionRest, section, headerChecks, reading}
+use Rattle.format.specs.Reading.{fieldChecks, holdsSubs, sectionChecks, sectionRest, section, headerChecks, reading}
 use Rattle.format.specs.Writer.{writeAnswer, draftAfter}
 use Rattle.format.specs.declared.Answer.the-variants.{Refused}
-use Rattle.format.proofs.Finding.{and-join}
+use Rattle.format.proofs.Finding.{and-join, or-left}
 use Rattle.format.proofs.Numbers.{bytes-take, bytes-drop}
 use Rattle.format.proofs.Grouping.{all-join}
 use Rattle.format.proofs.Tests.{Hold, refused-not, need-passed, tests-lead}
@@ -62,11 +62,25 @@ version-same m (a ∷ b ∷ c ∷ e ∷ bs) w h = refl
 cons : {a b : List ℕ} {fs gs : Fields} → a ≡ b → fs ≡ gs → (a ∷ fs) ≡ (b ∷ gs)
 cons e f = ap₂ (λ (x : List ℕ) (y : Fields). x ∷ y) e f
 
--- The head's tests pass in the section where they pass in the longer one.
+-- The head's tests pass in the section where they pass in the longer one, if those of its fields do.
+same-head : (x : Bool) (k : Kind) (seen : Bool) (ss : List Section) (m : ℕ) (z w : List ℕ) → holdsSubs k ≡ true → least (layout k) ≤ length z
+    → 4 ≤ length z → stated z ≡ length z
+    → (Hold (fieldChecks x k (restate 0 m z ++ w) ++ (check 3 9 (not (sameKind rule k && ruleBefore (partIn k (restate 0 m z ++ w)) ss)) ∷ []))
+    → Hold (fieldChecks x k z ++ (check 3 9 (not (sameKind rule k && ruleBefore (partIn k z) ss)) ∷ [])))
+    → Hold (sectionChecks x k seen (ruleBefore (partIn k (restate 0 m z ++ w)) ss) (restate 0 m z ++ w))
+    → Hold (sectionChecks x k seen (ruleBefore (partIn k z) ss) z)
+same-head x k seen ss m z w hs l four e fields h = (
+  ap allZero (sym (version-same m z w four)) ∙ h .0,
+  (
+    and-join _ _ (le-leb (least (layout k)) (stated z) (omega arith)) (le-leb (stated z) (length z) (omega arith)),
+    (h .1 .1 .0, (or-left (holdsSubs k) _ hs, fields (h .1 .1 .1 .1))),
+  ),
+)
+
 rule-head : (x seen : Bool) (ss : List Section) (m : ℕ) (z w : List ℕ) → 20 ≤ length z → stated z ≡ length z
     → Hold (sectionChecks x rule seen (ruleBefore (partIn rule (restate 0 m z ++ w)) ss) (restate 0 m z ++ w))
     → Hold (sectionChecks x rule seen (ruleBefore (partIn rule z) ss) z)
-rule-head x seen ss m z w l e h =
+rule-head x seen ss m z w l e =
     let same : partIn rule (restate 0 m z ++ w) ≡ partIn rule z =
     ap (λ (fs : Fields). record { kind = rule; fields = fs })
     (cons (field-same m z w 4 8 (omega arith) (omega arith))
@@ -74,41 +88,21 @@ rule-head x seen ss m z w l e h =
     (cons (field-same m z w 16 1 (omega arith) (omega arith))
     (cons (field-same m z w 17 1 (omega arith) (omega arith))
     (cons (field-same m z w 18 1 (omega arith) (omega arith))
-    (cons (field-same m z w 19 1 (omega arith) (omega arith)) refl)))))) in (
-      ap allZero (sym (version-same m z w (omega arith))) ∙ h .0,
-      (
-        and-join _ _ (le-leb (least (layout rule)) (stated z) (omega arith)) (le-leb (stated z) (length z) (omega arith)),
-        (
-          h .1 .1 .0,
-          (
-            refl,
-            subst (λ (q : Part). Hold (checks x rule (q .fields) ++ (check 3 9 (not (sameKind rule rule && ruleBefore q ss)) ∷ []))) same (h .1 .1 .1 .1),
-          ),
-        ),
-      ),
-    )
+    (cons (field-same m z w 19 1 (omega arith) (omega arith)) refl)))))) in
+    same-head x rule seen ss m z w refl (omega arith) (omega arith) e
+    (subst (λ (q : Part). Hold (checks x rule (q .fields) ++ (check 3 9 (not (sameKind rule rule && ruleBefore q ss)) ∷ []))) same)
 
 information-head : (x seen : Bool) (ss : List Section) (m : ℕ) (z w : List ℕ) → 10 ≤ length z → stated z ≡ length z
     → Hold (sectionChecks x information seen (ruleBefore (partIn information (restate 0 m z ++ w)) ss) (restate 0 m z ++ w))
     → Hold (sectionChecks x information seen (ruleBefore (partIn information z) ss) z)
-information-head x seen ss m z w l e h =
+information-head x seen ss m z w l e =
     let same : partIn information (restate 0 m z ++ w) ≡ partIn information z =
-    ap (λ (fs : Fields). record { kind = information; fields = fs }) (cons (field-same m z w 6 4 (omega arith) (omega arith)) refl) in (
-      ap allZero (sym (version-same m z w (omega arith))) ∙ h .0,
-      (
-        and-join _ _ (le-leb (least (layout information)) (stated z) (omega arith)) (le-leb (stated z) (length z) (omega arith)),
-        (
-          h .1 .1 .0,
-          (
-            refl,
-            (
-              ap allZero (sym (field-same m z w 4 2 (omega arith) (omega arith))) ∙ h .1 .1 .1 .1 .0,
-              subst (λ (q : Part). Hold (checks x information (q .fields) ++ (check 3 9 (not (sameKind rule information && ruleBefore q ss)) ∷ []))) same (h .1 .1 .1 .1 .1),
-            ),
-          ),
-        ),
-      ),
-    )
+    ap (λ (fs : Fields). record { kind = information; fields = fs }) (cons (field-same m z w 6 4 (omega arith) (omega arith)) refl) in
+    same-head x information seen ss m z w refl (omega arith) (omega arith) e
+    (λ h. (
+      ap allZero (sym (field-same m z w 4 2 (omega arith) (omega arith))) ∙ h .0,
+      subst (λ (q : Part). Hold (checks x information (q .fields) ++ (check 3 9 (not (sameKind rule information && ruleBefore q ss)) ∷ []))) same (h .1),
+    ))
 
 -- ---- the last section
 
@@ -163,17 +157,20 @@ rest-left x k ss at m z w f four same em small kind heads e late =
     refusal (refused g) q = ap refused (inside q)
     refusal (found s) q = absurd (refused-not (sym q))
 
--- Sections 12 and 14: the kind of their id, and their heads' tests.
+-- What is known of a section z of kind k that has w after it in the longer draft: its kind by its id, and that its head's
+-- tests pass where the longer one's do.
+abbrev Heads : Bool → List Section → ℕ → List ℕ → List ℕ → Kind → Type 0
+Heads x ss m z w k =
+    (sectionKind (idOf z) ≡ some k)
+    × (Hold (sectionChecks x k (kindBefore k ss) (ruleBefore (partIn k (restate 0 m z ++ w)) ss) (restate 0 m z ++ w))
+    → Hold (sectionChecks x k (kindBefore k ss) (ruleBefore (partIn k z) ss) z))
+
+-- It is known of sections 12 and 14.
 holder : (x : Bool) (ss : List Section) (i m : ℕ) (z w : List ℕ) → holdsSubsections i ≡ true → idOf z ≡ i → fixedFields i ≤ length z → stated z ≡ length z
-    → (sectionKind (idOf z) ≡ some (holderKind i))
-    × (Hold (sectionChecks x (holderKind i) (kindBefore (holderKind i) ss) (ruleBefore (partIn (holderKind i) (restate 0 m z ++ w)) ss) (restate 0 m z ++ w))
-    → Hold (sectionChecks x (holderKind i) (kindBefore (holderKind i) ss) (ruleBefore (partIn (holderKind i) z) ss) z))
+    → Heads x ss m z w (holderKind i)
 holder x ss i m z w hs id l e = go (eqb i 0x12) refl
   where
-    go : (b : Bool) → eqb i 0x12 ≡ b
-        → (sectionKind (idOf z) ≡ some (elim b as (λ v. Kind) [ true ↦ rule | false ↦ information ]))
-        × (Hold (sectionChecks x (elim b as (λ v. Kind) [ true ↦ rule | false ↦ information ]) (kindBefore (elim b as (λ v. Kind) [ true ↦ rule | false ↦ information ]) ss) (ruleBefore (partIn (elim b as (λ v. Kind) [ true ↦ rule | false ↦ information ]) (restate 0 m z ++ w)) ss) (restate 0 m z ++ w))
-        → Hold (sectionChecks x (elim b as (λ v. Kind) [ true ↦ rule | false ↦ information ]) (kindBefore (elim b as (λ v. Kind) [ true ↦ rule | false ↦ information ]) ss) (ruleBefore (partIn (elim b as (λ v. Kind) [ true ↦ rule | false ↦ information ]) z) ss) z))
+    go : (b : Bool) → eqb i 0x12 ≡ b → Heads x ss m z w (elim b as (λ v. Kind) [ true ↦ rule | false ↦ information ])
     go true q =
         let n = eqb-true i 0x12 q in
         let k = fixed-rule n in
