@@ -1,7 +1,7 @@
 -- The draft's own fault, and where an addition goes on after it. Assumes nothing.
 use mathlib.Core.Path.{_≡_, refl, sym, ap, ap₂, _∙_}
 use mathlib.Core.Bool.{Bool, true, false, _&&_}
-use mathlib.Core.List.{List, [], _∷_, _++_}
+use mathlib.Core.List.{List, _++_}
 use mathlib.Core.Logic.{inl}
 use Prim.Native.Nat.{ℕ, _+_, _<_, _≤_}
 use native.Mathlib.Nat.{add-zero}
@@ -19,7 +19,6 @@ use Rattle.format.proofs.Accepted.{allowed}
 use Rattle.format.proofs.Finding.{and-split}
 use Rattle.format.proofs.Numbers.{number-one}
 use Rattle.format.proofs.Tests.{tests-passed, needed, followed, then-found, then-refused}
-use Rattle.sections.specs.Refusals.{sectionRows}
 use Rattle.drafts.specs.Adding.{Reads, Standing, grown, appended, refusedAfter, ownFirst, unfit}
 use Rattle.drafts.proofs.Outcomes.{RefusedBy, told-refused, told-found, refused-written, same-written}
 
@@ -150,24 +149,24 @@ own-late d o w r a s =
     let t = told-refused length (appended d o w) a in
     same-written d (t .is ∙ sym (then-found _ (r .1)) ∙ sym (ap (ownFirst d) (t .is))) a s
 
--- Where the rest of the last section is all that is left of the draft's reading, its refusal is the answer,
-pub left-refused : {n p m q : ℕ} {new : List ℕ} (d : List ℕ) (o : ℕ) (w : List ℕ) (rest : Outcome Section) (ss : List Section)
-    → reading false d ≡ andThen rest (λ s. found (ss ++ s ∷ []))
-    → Refused n p ≡ writeAnswer (appended d o w) → new ≡ draftAfter (appended d o w) d → Refused m q ≡ asAnswer sectionRows rest
+-- Where the last section, read by itself, is all that is left of the draft's reading, its refusal is the answer,
+pub left-refused : {n p m q : ℕ} {new : List ℕ} (d : List ℕ) (o : ℕ) (w : List ℕ) (rest : Outcome (List Section)) (ss : List Section)
+    → reading false d ≡ andThen rest (λ ts. found (ss ++ ts))
+    → Refused n p ≡ writeAnswer (appended d o w) → new ≡ draftAfter (appended d o w) d → Refused m q ≡ asAnswer rowCount rest
     → (Refused m q ≡ writeAnswer (ownFirst d (appended d o w))) × (new ≡ draftAfter (ownFirst d (appended d o w)) d)
 unfolding ownFirst
 left-refused {n} {p} {m} {q} {new} d o w rest ss e a s own =
     let t = told-refused length (appended d o w) a in
-    let r = told-refused sectionRows rest own in
+    let r = told-refused rowCount rest own in
     let fault : ownFirst d (appended d o w) ≡ refused (r .cause) = ap (ownFirst d) (t .is) ∙ then-refused _ (e ∙ then-refused _ (r .is)) in
     let same : new ≡ d = s ∙ ap (λ (y : Outcome (List ℕ)). draftAfter y d) (t .is) in
     let v = refused-written (ownFirst d (appended d o w)) d (record { cause = r .cause; is = fault; number = r .number; place = r .place }) in
     (v .0, same ∙ v .1)
 
 -- and where it is found, the draft reads.
-pub left-found : {m : ℕ} (d : List ℕ) (rest : Outcome Section) (ss : List Section) → reading false d ≡ andThen rest (λ s. found (ss ++ s ∷ []))
-    → Accepted m ≡ asAnswer sectionRows rest → Reads d
-left-found d rest ss e own = let r = told-found sectionRows rest own in (ss ++ r .0 ∷ [], e ∙ then-found _ (r .1))
+pub left-found : {m : ℕ} (d : List ℕ) (rest : Outcome (List Section)) (ss : List Section) → reading false d ≡ andThen rest (λ ts. found (ss ++ ts))
+    → Accepted m ≡ asAnswer rowCount rest → Reads d
+left-found d rest ss e own = let r = told-found rowCount rest own in (ss ++ r .0, e ∙ then-found _ (r .1))
 
 -- the id of the section at a place is the byte there
 pub id-at : (d : List ℕ) (o : ℕ) → o < length d → idOf (drop o d) ≡ getD d o 0

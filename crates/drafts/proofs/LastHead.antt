@@ -1,7 +1,7 @@
--- Where the longer draft is refused after the head of its last section, the draft reads up to that section's subsections: what
--- is left of its reading is their own. Assumes nothing.
+-- Where the longer draft is refused after the head of its last section, the draft reads up to that section: what is left of
+-- its reading is that section, read alone. Assumes nothing.
 use mathlib.Core.Path.{_≡_, refl, sym, ap, ap₂, _∙_, subst}
-use mathlib.Core.Bool.{Bool, true, false, not, _&&_, _||_}
+use mathlib.Core.Bool.{Bool, true, false, not, _&&_, _||_, and-false}
 use mathlib.Core.List.{List, [], _∷_, _++_}
 use mathlib.Core.Option.{Option, none, some}
 use mathlib.Core.Logic.{_⊎_, ⊎-elim}
@@ -20,19 +20,20 @@ use Rattle.format.specs.Reading.{Fault, fault, Outcome, refused, found, need, a
 use Rattle.format.specs.Reading.{fieldChecks, holdsSubs, sectionChecks, sectionRest, section, headerChecks, reading}
 use Rattle.format.specs.Writer.{writeAnswer, draftAfter}
 use Rattle.format.specs.declared.Answer.the-variants.{Refused}
-use Rattle.format.proofs.Finding.{and-join, or-left}
+use Rattle.format.proofs.Finding.{and-join, or-left, or-right}
 use Rattle.format.proofs.Numbers.{bytes-take, bytes-drop}
 use Rattle.format.proofs.Grouping.{all-join}
-use Rattle.format.proofs.Tests.{Hold, refused-not, need-passed, tests-lead}
+use Rattle.format.proofs.Tests.{Hold, refused-not, need-passed, tests-lead, hold-split, hold-join}
 use Rattle.format.proofs.Turns.{then-same, sectionsFrom, sections-from, sections-none, sections-more}
 use Rattle.format.proofs.Changes.{restate}
 use Rattle.contents.proofs.Headers.{lengths}
-use Rattle.drafts.specs.Adding.{grown, appended, holdsSubsections, holderKind, fixedFields}
+use Rattle.drafts.specs.Adding.{grown, appended, moved, holdsSubsections, fixedFields}
 use Rattle.drafts.specs.Tiling.{LastAt, LastOpen}
 use Rattle.drafts.proofs.Tiling.{passed, passed-then}
 use Rattle.drafts.proofs.Stepping.{fixed-rule, fixed-other}
 use Rattle.drafts.proofs.Longer.{restate-long, grown-long}
 use Rattle.drafts.proofs.Restating.{behind-restated, restate-id, restate-stated, restate-bytes, id-taken}
+use Rattle.drafts.proofs.Moving.{rest-moved}
 use Rattle.drafts.proofs.Refusals.{Late, sections-front, tests-late}
 use Rattle.drafts.proofs.SubsectionFronts.{grown-cut, before-last, last-bytes}
 use Rattle.drafts.proofs.Adding.{last-standing}
@@ -128,27 +129,61 @@ alone x ss at r h e =
     let l = length-drop (stated r) r in
     sections-none false x (ss ++ s ∷ []) (at + stated r) (drop (stated r) r) (omega arith))
 
--- The longer section is refused after its head: the head passes in both, and what is left of the section is its rest.
-rest-left : (x : Bool) (k : Kind) (ss : List Section) (at m : ℕ) (z w : List ℕ) (f : Fault) → 4 ≤ length z → stated z ≡ length z
+-- The head of a section passes its tests as the first one too.
+first-head : (x : Bool) (k : Kind) (ss : List Section) (z : List ℕ) → Hold (sectionChecks x k (kindBefore k ss) (ruleBefore (partIn k z) ss) z)
+    → Hold (sectionChecks x k (kindBefore k []) (ruleBefore (partIn k z) []) z)
+first-head x k ss z h = (
+  h .0,
+  (
+    h .1 .0,
+    (
+      or-right (sameKind rule k) _ refl,
+      (
+        h .1 .1 .1 .0,
+        hold-join (fieldChecks x k z) _ (hold-split (fieldChecks x k z) _ (h .1 .1 .1 .1) .0) (ap not (and-false (sameKind rule k)), tt),
+      ),
+    ),
+  ),
+)
+
+-- What follows a section is put after it, wherever the section was read.
+joined : (j : ℕ) (ss : List Section) (o : Outcome Section)
+    → andThen (moved j o) (λ s. found (ss ++ s ∷ [])) ≡ andThen (moved j (andThen o (λ s. found (s ∷ [])))) (λ ts. found (ss ++ ts))
+unfolding andThen
+joined j ss (refused f) = refl
+joined j ss (found s) = refl
+
+-- The longer section is refused after its head: the head passes in both, and what is left of the draft is the section itself,
+-- read alone.
+rest-left : (x : Bool) (k : Kind) (ss : List Section) (at m : ℕ) (z w : List ℕ) (f : Fault) → 8 ≤ at → 4 ≤ length z → stated z ≡ length z
     → m ≡ length z + length w → m < 65536 → sectionKind (idOf z) ≡ some k
     → (Hold (sectionChecks x k (kindBefore k ss) (ruleBefore (partIn k (restate 0 m z ++ w)) ss) (restate 0 m z ++ w))
     → Hold (sectionChecks x k (kindBefore k ss) (ruleBefore (partIn k z) ss) z))
     → sectionsFrom false x ss at (restate 0 m z ++ w) ≡ refused f → at < f .part
-    → sectionsFrom false x ss at z ≡ andThen (sectionRest false x k at z) (λ s. found (ss ++ s ∷ []))
+    → sectionsFrom false x ss at z ≡ andThen (moved (at - 8) (sectionsFrom false x [] 8 z)) (λ ts. found (ss ++ ts))
 unfolding andThen
-rest-left x k ss at m z w f four same em small kind heads e late =
+rest-left x k ss at m z w f eight four same em small kind heads e late =
     let r : List ℕ = restate 0 m z ++ w in
     let lr = restate-long 0 m z in
     let la = length-append (restate 0 m z) w in
     let st : stated r ≡ m = restate-stated m z w four small in
     let id : sectionKind (idOf r) ≡ some k = ap sectionKind (restate-id m z w four) ∙ kind in
     let one : andThen (section false x ss at r) (λ s. found (ss ++ s ∷ [])) ≡ refused f = sym (alone x ss at r (omega arith) (omega arith)) ∙ e in
-    let own : section false x ss at z ≡ tested at (sectionChecks x k (kindBefore k ss) (ruleBefore (partIn k z) ss) z) (sectionRest false x k at z) =
-    known x k ss at z four kind in
     let tests = tests-late at (sectionChecks x k (kindBefore k ss) (ruleBefore (partIn k r) ss) r) (sectionRest false x k at r) f
     (sym (known x k ss at r (omega arith) id) ∙ refusal (section false x ss at r) one) in
-    let hold = ⊎-elim (λ q. absurd (omega arith)) (λ q. q .0) tests in
-    alone x ss at z four same ∙ ap (λ (o : Outcome Section). andThen o (λ s. found (ss ++ s ∷ []))) (own ∙ tests-lead at _ _ (heads hold))
+    let hold = heads (⊎-elim (λ q. absurd (omega arith)) (λ q. q .0) tests) in
+    let place : 8 + (at - 8) ≡ at = omega arith in
+    let first : sectionsFrom false x [] 8 z ≡ andThen (sectionRest false x k 8 z) (λ s. found (s ∷ [])) =
+    alone x [] 8 z four same
+    ∙ ap (λ (o : Outcome Section). andThen o (λ s. found (s ∷ []))) (known x k [] 8 z four kind ∙ tests-lead 8 _ _ (first-head x k ss z hold)) in
+    alone x ss at z four same
+    ∙ ap (λ (o : Outcome Section). andThen o (λ s. found (ss ++ s ∷ [])))
+    (known x k ss at z four kind
+    ∙ tests-lead at _ _ hold
+    ∙ ap (λ (q : ℕ). sectionRest false x k q z) (sym place)
+    ∙ rest-moved (at - 8) false x k 8 z)
+    ∙ joined (at - 8) ss (sectionRest false x k 8 z)
+    ∙ ap (λ (o : Outcome (List Section)). andThen (moved (at - 8) o) (λ ts. found (ss ++ ts))) (sym first)
   where
     inside : {g : Fault} → _≡_ {A = Outcome (List Section)} (refused g) (refused f) → g ≡ f
     inside q = cc
@@ -165,7 +200,11 @@ Heads x ss m z w k =
     × (Hold (sectionChecks x k (kindBefore k ss) (ruleBefore (partIn k (restate 0 m z ++ w)) ss) (restate 0 m z ++ w))
     → Hold (sectionChecks x k (kindBefore k ss) (ruleBefore (partIn k z) ss) z))
 
--- It is known of sections 12 and 14.
+-- The kinds of sections 12 and 14,
+abbrev holderKind : ℕ → Kind
+holderKind i = elim (eqb i 0x12) [ true ↦ rule | false ↦ information ]
+
+-- of which this is known.
 holder : (x : Bool) (ss : List Section) (i m : ℕ) (z w : List ℕ) → holdsSubsections i ≡ true → idOf z ≡ i → fixedFields i ≤ length z → stated z ≡ length z
     → Heads x ss m z w (holderKind i)
 holder x ss i m z w hs id l e = go (eqb i 0x12) refl
@@ -182,11 +221,11 @@ holder x ss i m z w hs id l e = go (eqb i 0x12) refl
 
 -- ---- the draft
 
--- What is left of the draft's reading is the rest of its last section.
+-- What is left of the draft's reading is its last section, read alone.
 last-left : (d w : List ℕ) (o i : ℕ) (f : Fault) → Bytes d → Bytes w → Hold (headerChecks false d) → stated d + length w ≤ 3500
     → LastAt (take (stated d) d) 8 o → idOf (drop o d) ≡ i → holdsSubsections i ≡ true → o + fixedFields i ≤ stated d
     → reading false (grown d o w) ≡ refused f → o < f .part
-    → (ss : List Section) × (reading false d ≡ andThen (sectionRest false (external (idOf d)) (holderKind i) o (drop o (take (stated d) d))) (λ s. found (ss ++ s ∷ [])))
+    → (ss : List Section) × (reading false d ≡ andThen (moved (o - 8) (sectionsFrom false (external (idOf d)) [] 8 (drop o (take (stated d) d)))) (λ ts. found (ss ++ ts)))
 unfolding reading
 last-left d w o i f b c h most la id hs fx e late =
     let D : List ℕ = take (stated d) d in
@@ -236,7 +275,7 @@ last-left d w o i f b c h most la id hs fx e late =
     (all-join (λ (y : ℕ). y < 256) (restate 0 m z) w (restate-bytes 0 m z (bytes-drop o D bD)) c) in
     let r = sections-front x Y t [] 8 by (omega arith) (subst (Late (8 + length (passed t))) (sym from) (omega arith)) in
     let hold = holder x (r .0) i m z w hs (v .id ∙ id) (omega arith) states in
-    let rest = rest-left x (holderKind i) (r .0) (8 + length (passed t)) m z w f four states (omega arith) (omega arith) (hold .0) (hold .1)
+    let rest = rest-left x (holderKind i) (r .0) (8 + length (passed t)) m z w f (omega arith) four states (omega arith) (omega arith) (hold .0) (hold .1)
     (sym (r .1 Y) ∙ from) (omega arith) in (
       r .0,
       tests-lead 0 (headerChecks false d) _ h
@@ -244,7 +283,7 @@ last-left d w o i f b c h most la id hs fx e late =
           ∙ ap (sectionsFrom false x [] 8) (passed-then t)
           ∙ r .1 z
           ∙ rest
-          ∙ ap (λ (j : ℕ). andThen (sectionRest false x (holderKind i) j z) (λ s. found (r .0 ++ s ∷ []))) place,
+          ∙ ap (λ (j : ℕ). andThen (moved (j - 8) (sectionsFrom false x [] 8 z)) (λ ts. found (r .0 ++ ts))) place,
     ))
     (tests-late 0 (headerChecks false g) _ f e)
 
@@ -260,21 +299,20 @@ module _ (d w : List ℕ) (o i : ℕ) (b : Bytes d) (c : Bytes w) (l : LastOpen 
 
   -- Its last section is there to be read.
   pub last-asked : {number at n : ℕ} {new : List ℕ} → Refused number at ≡ writeAnswer (appended d o w) → n ≡ stated d → new ≡ draftAfter (appended d o w) d
-      → (o + fixedFields i ≤ length (take n new)) × (length (take n new) ≤ 3500) × (length (take n new) ≡ o + stated (drop o (take n new)))
+      → (8 ≤ o) × (o ≤ length (take n new)) × (length (take n new) ≤ 3500)
   last-asked a en s =
-      let D : List ℕ = take (stated d) d in
       let k = lengths false d (l .header) in
       let ld = length-take-le (stated d) d (k .within) in
+      let le = ap length (same-bytes a en s) in
       let f = l .fixed in
       let m = k .most in
-      subst (λ (y : List ℕ). (o + fixedFields i ≤ length y) × (length y ≤ 3500) × (length y ≡ o + stated (drop o y))) (sym (same-bytes a en s))
-      (omega arith, omega arith, sym (l .last .ends))
+      (l .last .front, omega arith, omega arith)
 
-  -- Where the refusal comes after the section's head, what is left of the draft's reading is the rest of that section.
+  -- Where the refusal comes after the section's head, what is left of the draft's reading is that section, read alone.
   pub left : {number at n : ℕ} {new : List ℕ} → Refused number at ≡ writeAnswer (appended d o w) → (number ≡ 23 → ⊥) → o < at → n ≡ stated d
       → new ≡ draftAfter (appended d o w) d
       → (ss : List Section)
-      × (reading false d ≡ andThen (sectionRest false (external (idOf (take n new))) (holderKind i) o (drop o (take n new))) (λ s. found (ss ++ s ∷ [])))
+      × (reading false d ≡ andThen (moved (o - 8) (sectionsFrom false (external (idOf (take n new))) [] 8 (drop o (take n new)))) (λ ts. found (ss ++ ts)))
   left {number} {at} {n} {new} a other late en s =
       let f = appended-refused d o w a other in
       let place = f .1 .1 .1 in
@@ -285,5 +323,5 @@ module _ (d w : List ℕ) (o i : ℕ) (b : Bytes d) (c : Bytes w) (l : LastOpen 
       let id : idOf (take n new) ≡ idOf d = ap idOf same ∙ id-taken d (stated d) (omega arith) in (
         r .0,
         r .1
-            ∙ ap₂ (λ (j : ℕ) (y : List ℕ). andThen (sectionRest false (external j) (holderKind i) o (drop o y)) (λ t. found (r .0 ++ t ∷ []))) (sym id) (sym same),
+            ∙ ap₂ (λ (j : ℕ) (y : List ℕ). andThen (moved (o - 8) (sectionsFrom false (external j) [] 8 (drop o y))) (λ ts. found (r .0 ++ ts))) (sym id) (sym same),
       )

@@ -11,6 +11,7 @@ pub mod Joining
 pub mod Additions
 pub mod Longer
 pub mod Refusals
+pub mod Moving
 pub mod LastHead
 pub mod InPlace
 pub mod Outcomes

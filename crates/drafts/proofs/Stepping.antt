@@ -9,8 +9,7 @@ use lib.Seq.{drop-drop}
 use borrow.Author.Tests.{eq-eqb, ne-eqb}
 use Rattle.format.specs.Reading.{stated}
 use Rattle.format.proofs.Grouping.{is-true, is-false}
-use Rattle.format.specs.Parts.{rule, information}
-use Rattle.drafts.specs.Adding.{holderKind, fixedFields}
+use Rattle.drafts.specs.Adding.{fixedFields}
 use Rattle.drafts.specs.Tiling.{TiledTo, here, Tiled, Twenties, LastAt}
 use Rattle.drafts.proofs.Tiling.{tiled-more, tiled-through, tiled-on, tiled-first}
 
@@ -97,11 +96,3 @@ fixed-rule {i} e = sym (is-true (eqb i 18) 20 10 (eq-eqb i 18 e))
 
 pub fixed-other : {i : ℕ} → (i ≡ 18 → ⊥) → 10 ≡ fixedFields i
 fixed-other {i} e = sym (is-false (eqb i 18) 20 10 (ne-eqb i 18 e))
-
--- ---- their kinds
-
-pub holder-rule : {i : ℕ} → i ≡ 18 → rule ≡ holderKind i
-holder-rule {i} e = sym (is-true (eqb i 18) rule information (eq-eqb i 18 e))
-
-pub holder-other : {i : ℕ} → (i ≡ 18 → ⊥) → information ≡ holderKind i
-holder-other {i} e = sym (is-false (eqb i 18) rule information (ne-eqb i 18 e))

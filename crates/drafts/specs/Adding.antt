@@ -6,7 +6,7 @@ use mathlib.Core.Logic.{_⊎_}
 use Prim.Native.Nat.{ℕ, _+_, _≤_}
 use lib.Dec.{eqb, leb}
 use lib.ListN.{length, take, drop}
-use Rattle.format.specs.Parts.{Kind, rule, information, span}
+use Rattle.format.specs.Parts.{span}
 use Rattle.format.specs.Rules.{Section}
 use Rattle.format.specs.Reading.{Outcome, refused, found, fault, need, andThen, idOf, stated, reading}
 use Rattle.format.proofs.Changes.{restate}
@@ -26,6 +26,11 @@ unfoldable pub appended : List ℕ → ℕ → List ℕ → Outcome (List ℕ)
 appended d o w =
     need (leb (stated d + length w) 3500 && leb (stated d + length w) (length d)) (fault 23 (stated d) 0)
     (andThen (reading false (grown d o w)) (λ ts. found (grown d o w)))
+
+-- an outcome whose refusal stands j bytes further on
+abbrev pub moved : {A : Type 0} → ℕ → Outcome A → Outcome A
+moved j (refused f) = refused (fault (f .number) (f .part + j) (f .field))
+moved j (found a) = found a
 
 -- the draft's own fault, else the refusal with this number and place
 abbrev pub refusedAfter : List ℕ → ℕ → ℕ → Outcome (List ℕ)
@@ -55,10 +60,6 @@ subsectionAdded i d w =
 -- sections 12 and 14 have subsections
 abbrev pub holdsSubsections : ℕ → Bool
 holdsSubsections i = eqb i 0x12 || eqb i 0x14
-
--- their kinds
-abbrev pub holderKind : ℕ → Kind
-holderKind i = elim (eqb i 0x12) [ true ↦ rule | false ↦ information ]
 
 -- the bytes of their fixed fields
 abbrev pub fixedFields : ℕ → ℕ

@@ -5,25 +5,25 @@ mod last; // last.rt: the parts of a draft, passed by their lengths
 
 ghost use mathlib.Core.Path.{_≡_};
 ghost use mathlib.Core.Bool.{true, false};
-ghost use Prim.Native.Nat.{_+_, _≤_};
+ghost use mathlib.Core.List.{[]};
+ghost use Prim.Native.Nat.{_+_, _-_, _≤_};
 ghost use lib.ListN.{length, take, drop};
 ghost use Rattle.format.specs.Bytes.{Bytes};
 ghost use Rattle.format.specs.Parts.{external};
-ghost use Rattle.format.specs.Reading.{asAnswer, idOf, stated, sectionRest, headerChecks};
+ghost use Rattle.format.specs.Reading.{asAnswer, idOf, stated, headerChecks, rowCount};
+ghost use Rattle.format.proofs.Turns.{sectionsFrom};
 ghost use Rattle.format.proofs.Tests.{Hold};
 ghost use Rattle.format.specs.Writer.{writeAnswer, draftAfter};
-ghost use Rattle.sections.specs.Refusals.{sectionRows};
-ghost use Rattle.drafts.specs.Adding.{unfit, refusedAfter, ownFirst, appended, sectionAdded, subsectionAdded, holdsSubsections, holderKind, fixedFields};
+ghost use Rattle.drafts.specs.Adding.{unfit, refusedAfter, ownFirst, appended, sectionAdded, moved, subsectionAdded, holdsSubsections, fixedFields};
 ghost use Rattle.drafts.specs.Tiling.{Tiled, LastAt, LastOpen};
 use crate::growing::append;
 use crate::last::Last;
 use crate::last::last_part;
 use crate::last::last_section;
+use contents::whole::sections_of;
 use fields::two;
 use format::Answer;
 use reading::draft::read_draft;
-use rules::subsections::rule_subs;
-use sections::information::information_subs;
 
 // The answer of a call that is refused: the draft's own fault, else the refusal.
 fn own_fault_or(draft: &[u8], number: u32, place: u32) -> Answer
@@ -95,19 +95,22 @@ fn fixed_fields(id: u8) -> usize
     10
 }
 
-// The subsections of the last section of a draft, at a place, and what is tested after them.
-fn last_subsections(s: &[u8], id: u8, place: usize) -> Answer
-    requires { ⌜ (place + fixedFields id ≤ length (now s)) × (length (now s) ≤ 3500) × (length (now s) ≡ place + stated (drop place (now s))) ⌝ }
-    ensures { λ r. ⌜ r ≡ asAnswer sectionRows (sectionRest false (external (idOf (now (s .entry)))) (holderKind id) place (drop place (now (s .entry)))) ⌝ }
+// The answer of the section of s at a place, the last one, read by itself as the first section of a draft: eight bytes before
+// it stand for the header, and a refusal's place is moved to where the section stands.
+fn last_alone(s: &[u8], place: usize) -> Answer
+    requires { ⌜ (8 ≤ place) × (place ≤ length (now s)) × (length (now s) ≤ 3500) ⌝ }
+    ensures { λ r. ⌜ r ≡ asAnswer rowCount (moved (place - 8) (sectionsFrom false (external (idOf (now (s .entry)))) [] 8 (drop place (now (s .entry))))) ⌝ }
 {
-    if id == 0x12 {
-        return rule_subs(s, place, s.len(), false);
+    let front = place - 8;
+    let a = sections_of(&s[front..], s[0] == 30, false);
+    match a {
+        Answer::Refused(number, at) => Answer::Refused(number, at + front as u32),
+        Answer::Accepted(rows) => Answer::Accepted(rows),
     }
-    information_subs(s, place, s.len(), s[0] == 30, false)
 }
 
 // Puts a subsection after the draft, whose own fault comes before any other refusal. Where the longer draft is refused after
-// the head of its last section, the draft reads up to that section's subsections, and only these are read again.
+// the head of its last section, the draft reads up to that section, and only this one is read again.
 fn append_subsection(draft: &mut [u8], id: u8, place: usize, part: &mut [u8]) -> Answer
     requires { ⌜ LastOpen (now draft) id place ⌝ }
     ensures answer { λ r. ⌜ r ≡ writeAnswer (ownFirst (now (draft .entry)) (appended (now (draft .entry)) place (now (part .entry)))) ⌝ }
@@ -123,7 +126,7 @@ fn append_subsection(draft: &mut [u8], id: u8, place: usize, part: &mut [u8]) ->
             if at as usize <= place {
                 return own_fault_or(draft, number, at);
             }
-            let own = last_subsections(&draft[..n], id, place);
+            let own = last_alone(&draft[..n], place);
             match own {
                 Answer::Refused(f, p) => Answer::Refused(f, p),
                 Answer::Accepted(_rows) => Answer::Refused(number, at),

@@ -216,11 +216,11 @@ section-comes e full x before at r h ends =
         (section-numbered x (kindBefore k before) (ruleBefore (partIn k r) before) r k) (rest k)
 
 -- Nothing more is asked of the sections found.
-abbrev Anything : List Section → Type 0
+abbrev pub Anything : List Section → Type 0
 Anything ss = Unit {0}
 
 -- The sections come to such a refusal, where the turns are more than the bytes.
-sections-come : (e d : ℕ) (full x : Bool) (before : List Section) (at : ℕ) (r : List ℕ) → length r < d
+pub sections-come : (e d : ℕ) (full x : Bool) (before : List Section) (at : ℕ) (r : List ℕ) → length r < d
     → at + length r ≤ e → Comes (Early full e) Anything (sections d full x before at r)
 unfolding sections
 sections-come e zero full x before at r t h = absurd (omega arith)

@@ -1,6 +1,6 @@
 // Internal: section 12, the rule, and the loop over its subsections. Each test is made once and in order. The functions ask
 // that the bytes are there that earlier tests have shown to be there.
-pub mod subsections; // subsections.rt: the loop over the subsections of a rule, and what they owe each other
+mod subsections; // subsections.rt: the loop over the subsections of a rule, and what they owe each other
 
 ghost use mathlib.Core.Path.{_≡_};
 ghost use mathlib.Core.Bool.{Bool};

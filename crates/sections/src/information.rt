@@ -112,7 +112,7 @@ fn information_sub(
 }
 
 // The subsections of the section 14 at p, which ends at e, and what it requires; the rows of the section.
-pub fn information_subs(s: &[u8], p: usize, e: usize, external: bool, full: bool) -> Answer
+fn information_subs(s: &[u8], p: usize, e: usize, external: bool, full: bool) -> Answer
     requires { ⌜ (p + 10 ≤ e) × (e ≤ length (now s)) × (length (now s) ≤ 3500) × (e ≡ p + stated (drop p (now s))) ⌝ }
     ensures { λ r. ⌜ r ≡ asAnswer sectionRows (sectionRest full external information p (drop p (now (s .entry)))) ⌝ }
 {

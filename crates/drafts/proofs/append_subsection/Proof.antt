@@ -64,24 +64,24 @@ returns-2 c =
     own-refused (a .draft .now) (appended (a .draft .now) (a .place) (a .part .now))
     (sym (c .before .before .before .before .before .a .given .1) ∙ p .append .ensures .0) (p .append .ensures .1) (c .own-fault-or2 .ensures)
 
-slice-reshare-prefix-last-subsections : tie.Need-slice-reshare-prefix-last-subsections
-slice-reshare-prefix-last-subsections c =
+slice-reshare-prefix-last-alone : tie.Need-slice-reshare-prefix-last-alone
+slice-reshare-prefix-last-alone c =
     let s = c .before .before .before .before .before .before .before .before .before .before .before .before .before .before .before .before in
     let k = last-standing (s .args .draft .now) (s .args .place) (s .pre .header) (s .pre .last) in
     let e : length (c .before .before .before .before .before .before .before .before .before .append .last .0) ≡ length (s .args .draft .now) = c .before .before .before .before .before .before .before .before .draft .given in
     let n = c .before .before .before .before .before .before .before .before .before .before .before .before .two .ensures .0 in
     omega (arith, e, n, k .there)
 
-slice-aggregate-last-subsections : tie.Need-slice-aggregate-last-subsections
-slice-aggregate-last-subsections c =
+slice-aggregate-last-alone : tie.Need-slice-aggregate-last-alone
+slice-aggregate-last-alone c =
     let s = c .before .before .before .before .before .before .before .before .before .before .before .before .before .before .before .before .before in
     let k = last-standing (s .args .draft .now) (s .args .place) (s .pre .header) (s .pre .last) in
     let e : length (c .before .before .before .before .before .before .before .before .before .before .append .last .0) ≡ length (s .args .draft .now) = c .before .before .before .before .before .before .before .before .before .draft .given in
     let n = c .before .before .before .before .before .before .before .before .before .before .before .before .before .two .ensures .0 in
     sym (length-take-le _ (c .before .before .before .before .before .before .before .before .before .before .append .last .0) (omega (arith, e, n, k .there)))
 
-last-subsections-requires : tie.Need-last-subsections-requires
-last-subsections-requires c κs =
+last-alone-requires : tie.Need-last-alone-requires
+last-alone-requires c κs =
     let s = c .before .before .before .before .before .before .before .before .before .before .before .before .before .before .before .before .before in
     let p = c .before .before .before .before .before .before .before .before .before .before in
     let d = s .args .draft .now in
@@ -116,7 +116,7 @@ returns-3 c =
     let v = bytes-of w (λ i. (c .before .before .before .before .before .before .before .before .before .before .before .before .before .before .before .before .before .before .before .slice-known2 .given i) .fits) in
     let a = sym (c .before .before .before .before .before .before .before .before .a .given .1) ∙ p .append .ensures .0 in
     let l = left d w (s .args .place) (s .args .id) b v (s .pre) a (c .before .before .before .before .before .before .if1 .left) (omega (arith, c .before .before .before .before .before .if2 .left)) (c .before .before .before .before .before .before .before .before .before .before .before .before .before .before .before .before .before .two .ensures .0) (p .append .ensures .1) in
-    left-refused d (s .args .place) w _ (l .0) (l .1) a (p .append .ensures .1) (sym (c .before .own .given .1) ∙ c .before .before .before .last-subsections .ensures)
+    left-refused d (s .args .place) w _ (l .0) (l .1) a (p .append .ensures .1) (sym (c .before .own .given .1) ∙ c .before .before .before .last-alone .ensures)
 
 same-length-7 : tie.Need-same-length-7
 same-length-7 c = search needs
@@ -134,7 +134,7 @@ returns-4 c =
     let v = bytes-of w (λ i. (c .before .before .before .before .before .before .before .before .before .before .before .before .before .before .before .before .before .before .before .slice-known2 .given i) .fits) in
     let a = sym (c .before .before .before .before .before .before .before .before .a .given .1) ∙ p .append .ensures .0 in
     let l = left d w (s .args .place) (s .args .id) b v (s .pre) a (c .before .before .before .before .before .before .if1 .left) (omega (arith, c .before .before .before .before .before .if2 .left)) (c .before .before .before .before .before .before .before .before .before .before .before .before .before .before .before .before .before .two .ensures .0) (p .append .ensures .1) in
-    own-late d (s .args .place) w (left-found d _ (l .0) (l .1) (sym (c .before .own2 .given .1) ∙ c .before .before .before .last-subsections .ensures)) a (p .append .ensures .1)
+    own-late d (s .args .place) w (left-found d _ (l .0) (l .1) (sym (c .before .own2 .given .1) ∙ c .before .before .before .last-alone .ensures)) a (p .append .ensures .1)
 
 same-length-9 : tie.Need-same-length-9
 same-length-9 c = search needs
@@ -166,9 +166,9 @@ append-subsection-spec =
     same-length-3
     same-length-4
     returns-2
-    slice-reshare-prefix-last-subsections
-    slice-aggregate-last-subsections
-    last-subsections-requires
+    slice-reshare-prefix-last-alone
+    slice-aggregate-last-alone
+    last-alone-requires
     enum-known-own
     enum-known-own-2
     enum-known-a-2
