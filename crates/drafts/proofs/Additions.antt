@@ -35,7 +35,7 @@ use Rattle.drafts.proofs.Joining.{section-joins, sub-joins-last, sub-al
 -- ---- outcomes
 
 -- The same test, and the same after it where it passes.
-same-need : {A : Type 0} (b c : Bool) (f : Fault) (x y : Outcome A) → b ≡ c → (b ≡ true → x ≡ y) → need b f x ≡ need c f y
+pub same-need : {A : Type 0} (b c : Bool) (f : Fault) (x y : Outcome A) → b ≡ c → (b ≡ true → x ≡ y) → need b f x ≡ need c f y
 unfolding need
 same-need true true f x y e h = h refl
 same-need true false f x y e h = absurd (let z : _≡_ {A = ℕ} 0 1 = cc in omega arith)
@@ -67,7 +67,7 @@ unfit-added k fs d f e =
 -- ---- the longer draft
 
 -- The part's bytes, with the length that they have.
-made : (k : Kind) (fs : Fields) (w : List ℕ) (t : ℕ) → w ≡ write t (layout k) fs → t ≡ length w
+pub made : (k : Kind) (fs : Fields) (w : List ℕ) (t : ℕ) → w ≡ write t (layout k) fs → t ≡ length w
     → (length w ≡ size (record { kind = k; fields = fs })) × (w ≡ write (size (record { kind = k; fields = fs })) (layout k) fs)
 made k fs w t e l =
     let n : length w ≡ size (record { kind = k; fields = fs }) = ap length e ∙ size-any (layout k) t 0 fs in
@@ -96,7 +96,7 @@ section-grown d ss p w b e s l m =
     ∙ ap₂ (λ (n : ℕ) (y : List ℕ). restate 0 (n + size p) y ++ write (size p) (layout (p .kind)) (p .fields)) st front
     ∙ sym (section-added (idOf d) ps p s)
 
-section-same : (k : Kind) (fs : Fields) (d w : List ℕ) (t : ℕ) → isSubsection k ≡ false → fits [] (layout k) fs ≡ true
+pub section-same : (k : Kind) (fs : Fields) (d w : List ℕ) (t : ℕ) → isSubsection k ≡ false → fits [] (layout k) fs ≡ true
     → w ≡ write t (layout k) fs → t ≡ length w → Bytes d → addition k fs d ≡ sectionAdded d w
 unfolding addition sectionAdded
 section-same k fs d w t s f m l b =

@@ -108,7 +108,7 @@ information-head x seen ss m z w l e =
 -- ---- the last section
 
 -- A section of kind k at the front of r: its tests, and then the rest of it.
-known : (x : Bool) (k : Kind) (ss : List Section) (at : ℕ) (r : List ℕ) → 4 ≤ length r → sectionKind (idOf r) ≡ some k
+pub known : (x : Bool) (k : Kind) (ss : List Section) (at : ℕ) (r : List ℕ) → 4 ≤ length r → sectionKind (idOf r) ≡ some k
     → section false x ss at r ≡ tested at (sectionChecks x k (kindBefore k ss) (ruleBefore (partIn k r) ss) r) (sectionRest false x k at r)
 unfolding section
 known x k ss at r h q =
@@ -119,7 +119,7 @@ known x k ss at r h q =
     ]) q
 
 -- One section that is all that is left.
-alone : (x : Bool) (ss : List Section) (at : ℕ) (r : List ℕ) → 4 ≤ length r → stated r ≡ length r
+pub alone : (x : Bool) (ss : List Section) (at : ℕ) (r : List ℕ) → 4 ≤ length r → stated r ≡ length r
     → sectionsFrom false x ss at r ≡ andThen (section false x ss at r) (λ s. found (ss ++ s ∷ []))
 unfolding need
 alone x ss at r h e =

@@ -47,7 +47,7 @@ refused-written o d r =
     (ap₂ Refused (r .number) (r .place) ∙ sym (ap writeAnswer (r .is)), sym (ap (λ (y : Outcome (List ℕ)). draftAfter y d) (r .is)))
 
 -- What is found is told with its length, and stands in the draft from its start on.
-found-written : {n : ℕ} (o : Outcome (List ℕ)) (d bs : List ℕ) → o ≡ found bs → n ≡ length bs
+pub found-written : {n : ℕ} (o : Outcome (List ℕ)) (d bs : List ℕ) → o ≡ found bs → n ≡ length bs
     → (Accepted n ≡ writeAnswer o) × (bs ++ drop (length bs) d ≡ draftAfter o d)
 unfolding asAnswer
 found-written o d bs e l = (ap Accepted l ∙ sym (ap writeAnswer e), sym (ap (λ (y : Outcome (List ℕ)). draftAfter y d) e))

@@ -140,34 +140,53 @@ tests-gone e at (c ∷ cs) rest h l = go (c .holds) (λ k. tests-gone e at cs re
     go true more k = more k
     go false more k = absurd (omega arith)
 
+-- The draft with a section after it: the id, the new length, and the section after those that were there.
+pub record GrownParts (d w : List ℕ) : Type 0 where
+  pub id : idOf (grown d 0 w) ≡ idOf d
+  pub states : stated (grown d 0 w) ≡ stated d + length w
+  pub body : drop 8 (take (stated (grown d 0 w)) (grown d 0 w)) ≡ drop 8 (take (stated d) d) ++ w
+
+pub grown-parts : (d w : List ℕ) → Hold (headerChecks false d) → stated d + length w ≤ 3500 → GrownParts d w
+grown-parts d w h m =
+    let D : List ℕ = take (stated d) d in
+    let n : ℕ = stated d + length w in
+    let g : List ℕ = grown d 0 w in
+    let k = lengths false d h in
+    let least = k .least in
+    let ld = length-take-le (stated d) d (k .within) in
+    let lg = grown-long d 0 w (header-standing d h) in
+    let form : g ≡ restate 0 n D ++ w = ap (λ (y : List ℕ). y ++ w) (restate-over n n D) in
+    let st : stated g ≡ n = ap stated form ∙ restate-stated n D w (omega arith) (omega arith) in
+    let lr = restate-long 0 n D in
+    record {
+      id = ap idOf form ∙ restate-id n D w (omega arith) ∙ id-taken d (stated d) (omega arith);
+      states = st;
+      body = ap (drop 8) (take-all (stated g) g (omega arith) ∙ form)
+          ∙ drop-append-le 8 (restate 0 n D) w (omega arith)
+          ∙ ap (λ (y : List ℕ). y ++ w) (behind-restated 8 n D (omega arith));
+    }
+
 -- Where the longer draft reads, or is refused at the draft's end or after it, the draft reads.
 pub front-read : (d w : List ℕ) → Bytes d → Bytes w → Hold (headerChecks false d) → stated d + length w ≤ 3500
     → Tiled (drop 8 (take (stated d) d)) → Late (stated d) (reading false (grown d 0 w)) → Reads d
 unfolding reading need
 front-read d w b c h m t l =
     let D : List ℕ = take (stated d) d in
-    let n : ℕ = stated d + length w in
     let g : List ℕ = grown d 0 w in
     let x : Bool = external (idOf d) in
     let k = lengths false d h in
     let least = k .least in
     let ld = length-take-le (stated d) d (k .within) in
     let le = length-drop 8 D in
-    let lg = grown-long d 0 w (header-standing d h) in
-    let form : g ≡ restate 0 n D ++ w = ap (λ (y : List ℕ). y ++ w) (restate-over n n D) in
-    let id : idOf g ≡ idOf d = ap idOf form ∙ restate-id n D w (omega arith) ∙ id-taken d (stated d) (omega arith) in
-    let st : stated g ≡ n = ap stated form ∙ restate-stated n D w (omega arith) (omega arith) in
-    let lr = restate-long 0 n D in
+    let p = grown-parts d w h m in
+    let st = p .states in
     let all : drop 8 D ≡ passed t = passed-then t ∙ append-nil (passed t) in
     let la = ap length all in
-    let body : drop 8 (take (stated g) g) ≡ passed t ++ w =
-    ap (drop 8) (take-all (stated g) g (omega arith) ∙ form)
-    ∙ drop-append-le 8 (restate 0 n D) w (omega arith)
-    ∙ ap (λ (y : List ℕ). y ++ w) (behind-restated 8 n D (omega arith) ∙ all) in
+    let body : drop 8 (take (stated g) g) ≡ passed t ++ w = p .body ∙ ap (λ (y : List ℕ). y ++ w) all in
     let lb = ap length body in
     let lw = length-append (passed t) w in
     let from = sections-from (suc (stated g)) false (external (idOf g)) [] 8 (drop 8 (take (stated g) g)) (omega arith)
-    ∙ ap₂ (λ (i : ℕ) (y : List ℕ). sectionsFrom false (external i) [] 8 y) id body in
+    ∙ ap₂ (λ (i : ℕ) (y : List ℕ). sectionsFrom false (external i) [] 8 y) (p .id) body in
     let end : stated d ≡ 8 + length (passed t) = omega arith in
     let late = subst (λ (e : ℕ). Late e (sectionsFrom false x [] 8 (passed t ++ w))) end
     (subst (Late (stated d)) from (tests-gone (stated d) 0 (headerChecks false g) _ (omega arith) l)) in

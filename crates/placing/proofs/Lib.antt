@@ -1,3 +1,6 @@
 pub mod Passing
 pub mod Sections
 pub mod Places
+pub mod Longer
+pub mod Judging
+pub mod Answers
