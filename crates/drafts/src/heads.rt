@@ -1,7 +1,7 @@
 // Internal: how the bytes of a section or a subsection begin.
 ghost use mathlib.Core.Bool.{true};
 ghost use mathlib.Core.List.{_∷_, []};
-ghost use Prim.Native.Nat.{_≤_, _<_};
+ghost use Prim.Native.Nat.{_+_, _≤_, _<_};
 ghost use lib.ListN.{length};
 ghost use Rattle.format.specs.Bytes.{bigEndian};
 ghost use Rattle.format.specs.Layout.{write};
@@ -10,14 +10,14 @@ ghost use Rattle.storing.specs.Storing.{Stored};
 use storing::put_one;
 use storing::put_two;
 
-// How a section of n bytes begins: its id, 0, and its length.
-pub fn section_head(part: &mut [u8], id: u8, n: usize) -> usize
-    requires { ⌜ (4 ≤ length (now part)) × (n < 65536) ⌝ }
-    ensures { λ r. ⌜ Stored (now (part .entry)) 0 (id ∷ 0 ∷ bigEndian 2 n) (now (part .exit)) r ⌝ }
+// How a section of n bytes begins, from the place `at` on: its id, 0, and its length.
+pub fn section_head(part: &mut [u8], at: usize, id: u8, n: usize) -> usize
+    requires { ⌜ (at + 4 ≤ length (now part)) × (n < 65536) ⌝ }
+    ensures { λ r. ⌜ Stored (now (part .entry)) at (id ∷ 0 ∷ bigEndian 2 n) (now (part .exit)) r ⌝ }
 {
-    let at = put_one(part, 0, id);
-    let next = put_one(part, at, 0);
-    put_two(part, next, n)
+    let version_at = put_one(part, at, id);
+    let length_at = put_one(part, version_at, 0);
+    put_two(part, length_at, n)
 }
 
 // How a subsection of n bytes begins: its tag, its length, version 0.

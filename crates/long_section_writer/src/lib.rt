@@ -10,6 +10,7 @@ use drafts::add_section;
 use drafts::heads::section_head;
 use drafts::not_fitting;
 use format::Answer;
+use placing::place_for;
 use storing::put;
 use storing::put_four;
 use storing::put_two;
@@ -43,7 +44,7 @@ pub fn public_key(
     if ROOM < n {
         return add_section(draft, &mut part);
     }
-    let zeros_at = section_head(&mut part, 0x11, n);
+    let zeros_at = section_head(&mut part, 0, 0x11, n);
     let exponent_count_at = put_two(&mut part, zeros_at, 0);
     let bits_at = put_two(&mut part, exponent_count_at, exponent.len());
     let modulus_count_at = put_two(&mut part, bits_at, modulus_bits as usize);
@@ -62,13 +63,16 @@ pub fn application_data(draft: &mut [u8], data: &[u8]) -> Answer
     if 65535 < data.len() {
         return not_fitting(draft);
     }
-    let mut part = [0u8; TOKEN];
     let n = 6 + data.len();
-    if ROOM < n {
-        return add_section(draft, &mut part);
+    let a = place_for(draft, 0x15, n);
+    match a {
+        Answer::Refused(number, place) => Answer::Refused(number, place),
+        Answer::Accepted(l) => {
+            let count_at = section_head(draft, l as usize, 0x15, n);
+            let data_at = put_two(draft, count_at, data.len());
+            let end = put(draft, data_at, data);
+            let _next = put_two(draft, 2, end);
+            Answer::Accepted(end as u32)
+        }
     }
-    let count_at = section_head(&mut part, 0x15, n);
-    let data_at = put_two(&mut part, count_at, data.len());
-    let end = put(&mut part, data_at, data);
-    add_section(draft, &mut part[..end])
 }

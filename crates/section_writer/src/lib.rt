@@ -32,7 +32,7 @@ pub fn rule(
         return not_fitting(draft);
     }
     let mut part = [0u8; 20];
-    let id_at = section_head(&mut part, 0x12, 20);
+    let id_at = section_head(&mut part, 0, 0x12, 20);
     let flags_at = put(&mut part, id_at, rule_id);
     let length_at = put_four(&mut part, flags_at, flags);
     let check_at = put_one(&mut part, length_at, generated_length);
@@ -51,7 +51,7 @@ pub fn name(draft: &mut [u8], name: &[u8]) -> Answer
         return not_fitting(draft);
     }
     let mut part = [0u8; 68];
-    let at = section_head(&mut part, 0x13, 68);
+    let at = section_head(&mut part, 0, 0x13, 68);
     let end = put(&mut part, at, name);
     add_section(draft, &mut part[..end])
 }
@@ -62,7 +62,7 @@ pub fn information(draft: &mut [u8], flags: u32) -> Answer
     ensures draft { λ _. ⌜ now (draft .exit) ≡ draftAfter (addition Parts.information (informationFields flags) (now (draft .entry))) (now (draft .entry)) ⌝ }
 {
     let mut part = [0u8; 10];
-    let at = section_head(&mut part, 0x14, 10);
+    let at = section_head(&mut part, 0, 0x14, 10);
     let flags_at = put_two(&mut part, at, 0);
     let end = put_four(&mut part, flags_at, flags);
     add_section(draft, &mut part[..end])

@@ -19,7 +19,7 @@ pub fn start(draft: &mut [u8], id: u8) -> Answer
     }
     match id {
         0x1E | 0x1F => {
-            let at = section_head(draft, id, 8);
+            let at = section_head(draft, 0, id, 8);
             put_four(draft, at, 0);
             Answer::Accepted(8)
         }

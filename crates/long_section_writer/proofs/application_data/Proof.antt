@@ -1,19 +1,37 @@
--- `application_data`: a count and its bytes after the section's head, added to the draft.
-use mathlib.Core.Path.{_≡_, refl, sym, ap}
-use mathlib.Core.List.{[], _∷_, _++_, append-nil}
-use Prim.Native.Nat.{_+_}
+-- `application_data`: the place, then a count and the bytes after the section's head, and the new length.
+use mathlib.Core.Path.{_≡_, refl, sym, ap, _∙_}
+use mathlib.Core.List.{List, [], _∷_, _++_, append-nil}
+use Prim.Native.Nat.{ℕ, _+_, _≤_}
 use native.Mathlib.Omega.{arith}
 use lib.ListN.{length}
-use lib.Seq.{length-take-le}
-use borrow.Author.Needs.{needs}
-use Rattle.format.specs.Parts.{applicationData}
+use Rattle.format.specs.Bytes.{Bytes}
+use Rattle.format.specs.Layout.{write}
+use Rattle.format.specs.Parts.{applicationData, layout}
+use Rattle.format.proofs.Changes.{restate}
+use Rattle.reading.proofs.Filled.{bytes-of}
 use Rattle.storing.proofs.Stores.{stored-then}
 use Rattle.drafts.proofs.Additions.{unfit-added}
+use Rattle.drafts.proofs.Calls.{header-stands}
 use Rattle.drafts.proofs.Fields.{count-unfit, counted-fits}
-use Rattle.drafts.proofs.StoredParts.{stored-last, section-stored}
-use Rattle.long_section_writer.proofs.Overlong.{section-overlong}
+use Rattle.drafts.proofs.Longer.{length-stored}
+use Rattle.drafts.proofs.StoredParts.{stored-last}
+use Rattle.placing.proofs.Answers.{Ready, placed, no-place, put-after}
+use borrow.Author.Needs.{needs}
 use Rattle.long_section_writer.proofs.application_data.Statement.{statement}
 use Rattle.long_section_writer.proofs.application_data.Tie as tie
+
+-- data that its count can state
+ready : (d x : List ℕ) → length x ≤ 65535 → Bytes d
+    → Ready applicationData (x ∷ []) d (write (6 + length x) (layout applicationData) (x ∷ [])) (6 + length x)
+ready d x h b =
+    let l : length (x ++ []) ≡ length x = ap length (append-nil x) in
+    record {
+      single = record { section = refl; bare = refl; once = refl };
+      fit = counted-fits (length x) 65535 h refl;
+      bytes = b;
+      form = refl;
+      long = omega arith;
+    }
 
 not-fitting-requires : tie.Need-not-fitting-requires
 not-fitting-requires c κs = search needs
@@ -30,71 +48,111 @@ returns c =
 add-n : tie.Need-add-n
 add-n c = search needs
 
-slice-aggregate-add-section : tie.Need-slice-aggregate-add-section
-slice-aggregate-add-section c = search needs
+place-for-requires : tie.Need-place-for-requires
+place-for-requires c κs = search needs
 
-add-section-requires : tie.Need-add-section-requires
-add-section-requires c κs = search needs
+enum-known-a : tie.Need-enum-known-a
+enum-known-a c = search needs
+
+enum-known-a-2 : tie.Need-enum-known-a-2
+enum-known-a-2 c = search needs
+
+cast-section-head : tie.Need-cast-section-head
+cast-section-head c = search needs
+
+section-head-requires : tie.Need-section-head-requires
+section-head-requires c κs =
+    let a = c .before .before .before .before .before .before .before .before .before .args in
+    let d = a .draft .now in
+    let x = a .«data» .now in
+    let p = placed d 0x15 (6 + length x) (sym (c .before .before .a2 .given .1) ∙ c .before .before .before .before .place-for .ensures) .1 in
+    let ends = p .ends in
+    let most = p .most in
+    let there = p .there in
+    (omega arith, omega arith)
+
+put-two-requires : tie.Need-put-two-requires
+put-two-requires c κs =
+    let a = c .before .before .before .before .before .before .before .before .before .before .before .before .before .args in
+    let d = a .draft .now in
+    let x = a .«data» .now in
+    let p = placed d 0x15 (6 + length x) (sym (c .before .before .before .before .before .before .a2 .given .1) ∙ c .before .before .before .before .before .before .before .before .place-for .ensures) .1 in
+    let ends = p .ends in
+    let most = p .most in
+    let there = p .there in
+    let h = c .before .before .before .section-head .ensures .place in
+    let l₁ = c .before .before .draft .given in
+    (omega arith, omega arith)
+
+put-requires : tie.Need-put-requires
+put-requires c κs =
+    let a = c .before .before .before .before .before .before .before .before .before .before .before .before .before .before .before .before .before .args in
+    let d = a .draft .now in
+    let x = a .«data» .now in
+    let p = placed d 0x15 (6 + length x) (sym (c .before .before .before .before .before .before .before .before .before .before .a2 .given .1) ∙ c .before .before .before .before .before .before .before .before .before .before .before .before .place-for .ensures) .1 in
+    let ends = p .ends in
+    let most = p .most in
+    let there = p .there in
+    let h = c .before .before .before .before .before .before .before .section-head .ensures .place in
+    let q = c .before .before .before .put-two .ensures .place in
+    let l₁ = c .before .before .before .before .before .before .draft .given in
+    let l₂ = c .before .before .draft2 .given in
+    omega arith
+
+put-two-requires-2 : tie.Need-put-two-requires-2
+put-two-requires-2 c κs =
+    let a = c .before .before .before .before .before .before .before .before .before .before .before .before .before .before .before .before .before .before .before .before .before .args in
+    let d = a .draft .now in
+    let x = a .«data» .now in
+    let p = placed d 0x15 (6 + length x) (sym (c .before .before .before .before .before .before .before .before .before .before .before .before .before .before .a2 .given .1) ∙ c .before .before .before .before .before .before .before .before .before .before .before .before .before .before .before .before .place-for .ensures) .1 in
+    let ends = p .ends in
+    let most = p .most in
+    let there = p .there in
+    let least = header-stands d (p .reads) .least in
+    let h = c .before .before .before .before .before .before .before .before .before .before .before .section-head .ensures .place in
+    let q = c .before .before .before .before .before .before .before .put-two .ensures .place in
+    let e = c .before .before .before .put .ensures .place in
+    let l₁ = c .before .before .before .before .before .before .before .before .before .before .draft .given in
+    let l₂ = c .before .before .before .before .before .before .draft2 .given in
+    let l₃ = c .before .before .draft3 .given in
+    (omega arith, omega arith)
+
+cast-t28 : tie.Need-cast-t28
+cast-t28 c =
+    let a = c .before .before .before .before .before .before .before .before .before .before .before .before .before .before .before .before .before .before .before .before .before .before .before .before .args in
+    let d = a .draft .now in
+    let x = a .«data» .now in
+    let p = placed d 0x15 (6 + length x) (sym (c .before .before .before .before .before .before .before .before .before .before .before .before .before .before .before .before .before .a2 .given .1) ∙ c .before .before .before .before .before .before .before .before .before .before .before .before .before .before .before .before .before .before .before .place-for .ensures) .1 in
+    let ends = p .ends in
+    let most = p .most in
+    let there = p .there in
+    let h = c .before .before .before .before .before .before .before .before .before .before .before .before .before .before .section-head .ensures .place in
+    let q = c .before .before .before .before .before .before .before .before .before .before .put-two .ensures .place in
+    let e = c .before .before .before .before .before .before .put .ensures .place in
+    omega arith
 
 same-length-2 : tie.Need-same-length-2
 same-length-2 c = search needs
 
 returns-2 : tie.Need-returns-2
 returns-2 c =
-    let s = c .before .before .before in
-    let a = s .before .before .before .before .before .before .before .args in
-    let x = a .«data» .now in
-    let l : length (x ++ []) ≡ length x = ap length (append-nil x) in
-    section-overlong applicationData (x ∷ []) (a .draft .now) _ (6 + length x) refl
-    (counted-fits (length x) 65535 (omega arith) refl) (omega arith) (omega arith) (omega arith)
-    (s .add-section .ensures)
-
-slice-aggregate-section-head : tie.Need-slice-aggregate-section-head
-slice-aggregate-section-head c = search needs
-
-section-head-requires : tie.Need-section-head-requires
-section-head-requires c κs = search needs
-
-slice-aggregate-put-two : tie.Need-slice-aggregate-put-two
-slice-aggregate-put-two c = search needs
-
-put-two-requires : tie.Need-put-two-requires
-put-two-requires c κs = search needs
-
-slice-aggregate-put : tie.Need-slice-aggregate-put
-slice-aggregate-put c = search needs
-
-put-requires : tie.Need-put-requires
-put-requires c κs = search needs
-
-array-borrow-prefix-part : tie.Need-array-borrow-prefix-part
-array-borrow-prefix-part c = search needs
-
-slice-aggregate-add-section-2 : tie.Need-slice-aggregate-add-section-2
-slice-aggregate-add-section-2 c =
-    let p = c .before .before .before .put in
-    sym (length-take-le (p .result) (p .last .0) (omega (arith, p .kept .0, p .ensures .place)))
-
-add-section-requires-2 : tie.Need-add-section-requires-2
-add-section-requires-2 c κs = search needs
+    let a = c .before .before .before .before .before .before .before .before .args in
+    no-place (ready (a .draft .now) (a .«data» .now) (omega arith) (bytes-of (a .draft .now) (λ i. (c .before .before .before .before .before .before .before .slice-known .given i) .fits))) (sym (c .before .a .given .1) ∙ c .before .before .before .place-for .ensures)
 
 same-length-3 : tie.Need-same-length-3
 same-length-3 c = search needs
 
 returns-3 : tie.Need-returns-3
 returns-3 c =
-    let s = c .before .before .before in
-    let p = s .before .before .before .before in
-    let n = p .before .before .before in
-    let h = n .before .before .before in
-    let a = h .before .before .before .before .before .before .args in
+    let a = c .before .before .before .before .before .before .before .before .before .before .before .before .before .before .before .before .before .before .before .before .before .before .before .before .args in
+    let d = a .draft .now in
     let x = a .«data» .now in
-    let e : 6 + length x ≡ p .put .result =
-    omega (arith, h .section-head .ensures .place, n .put-two .ensures .place, p .put .ensures .place) in
-    section-stored applicationData (x ∷ []) (a .draft .now) (6 + length x) refl
-    (counted-fits (length x) 65535 (omega arith) refl)
-    (stored-then (h .section-head .ensures) (stored-then (n .put-two .ensures) (stored-last (p .put .ensures))))
-    (omega arith) e (s .add-section2 .ensures)
+    let h = c .before .before .before .before .before .before .before .before .before .before .before .before .before .before .section-head .ensures .place in
+    let q = c .before .before .before .before .before .before .before .before .before .before .put-two .ensures .place in
+    let e = c .before .before .before .before .before .before .put .ensures .place in
+    put-after (ready d x (omega arith) (bytes-of d (λ i. (c .before .before .before .before .before .before .before .before .before .before .before .before .before .before .before .before .before .before .before .before .before .before .before .slice-known .given i) .fits))) (sym (c .before .before .before .before .before .before .before .before .before .before .before .before .before .before .before .before .before .a2 .given .1) ∙ c .before .before .before .before .before .before .before .before .before .before .before .before .before .before .before .before .before .before .before .place-for .ensures) tt (omega arith)
+    (length-stored 0 (c .before .before .before .before .before .before .put .result) (c .before .before .put-two2 .ensures)
+    ∙ ap (restate 0 (c .before .before .before .before .before .before .put .result)) (stored-then (c .before .before .before .before .before .before .before .before .before .before .before .before .before .before .section-head .ensures) (stored-then (c .before .before .before .before .before .before .before .before .before .before .put-two .ensures) (stored-last (c .before .before .before .before .before .before .put .ensures))) .bytes))
 
 pub application-data-spec : {M : Type 1} → statement M
 application-data-spec =
@@ -104,18 +162,16 @@ application-data-spec =
     same-length
     returns
     add-n
-    slice-aggregate-add-section
-    add-section-requires
+    place-for-requires
+    enum-known-a
+    enum-known-a-2
+    cast-section-head
+    section-head-requires
+    put-two-requires
+    put-requires
+    put-two-requires-2
+    cast-t28
     same-length-2
     returns-2
-    slice-aggregate-section-head
-    section-head-requires
-    slice-aggregate-put-two
-    put-two-requires
-    slice-aggregate-put
-    put-requires
-    array-borrow-prefix-part
-    slice-aggregate-add-section-2
-    add-section-requires-2
     same-length-3
     returns-3)
