@@ -6,7 +6,7 @@ use native.Mathlib.Nat.{add-zero, mul-one, suc-mul, mul-assoc, add-mul, mul-le-m
 use native.Mathlib.Numerals.{add-one}
 use native.Mathlib.Omega.{arith}
 use lib.ListN.{length, getD, take, drop, length-drop}
-use lib.Seq.{drop-cons, length-take-le, take-add, take-take, drop-drop, drop-at, getD-take, getD-drop}
+use lib.Seq.{drop-cons, length-take-le, take-add, take-take, drop-drop, drop-at, getD-take, getD-drop, take-all}
 use lib.Dec.{eqb}
 use lib.Bits.{bitOr, or-zero-l, or-add-and, and-le-r}
 use mathlib.Core.Bool.{Bool, _&&_, and-assoc}
@@ -32,6 +32,11 @@ bytes-next s p e h l =
 -- all of them, from the start
 pub bytes-start : (s : List ℕ) (i n : ℕ) → bytesAt s i ((i + n) - i) ≡ bytesAt s i n
 bytes-start s i n = ap (λ (m : ℕ). bytesAt s i m) (add-sub-cancel-left i n)
+
+-- all the bytes of a list
+pub bytes-all : (s : List ℕ) → bytesAt s 0 (length s) ≡ s
+unfolding bytesAt
+bytes-all s = take-all (length s) s (omega arith)
 
 -- how many there are
 pub bytes-length : (s : List ℕ) (i n : ℕ) → i + n ≤ length s → length (bytesAt s i n) ≡ n

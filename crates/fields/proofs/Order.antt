@@ -7,12 +7,13 @@ use Prim.Native.Nat.{ℕ, suc, _+_, _-_, _*_, _^_, _<_, _≤_}
 use native.Mathlib.Nat.{suc-mul, one-mul, zero-mul, mul-le-mul-right, le-of-lt, pos-of-ne-zero}
 use native.Mathlib.Omega.{arith}
 use lib.Dec.{ltb}
-use lib.ListN.{length, getD}
+use lib.ListN.{length, getD, drop, drop-of-length-le, length-drop}
+use lib.Seq.{take-all, drop-cons}
 use borrow.Author.Tests.{lt-ltb, le-ltb, ltb-true, ltb-false, eqb-true, eqb-false}
 use Rattle.format.specs.Bytes.{Bytes, number, bytesAt, allZero}
-use Rattle.fields.proofs.Lists.{bytes-next, bytes-end, bytes-length, number-first, number-below, number-join, zero-number}
+use Rattle.format.proofs.Numbers.{bytes-drop}
+use Rattle.fields.proofs.Lists.{bytes-all, number-first, number-below, number-join, zero-number}
 use Rattle.fields.proofs.Classes.{yes-or-no}
-use Rattle.fields.proofs.Sizes.{bytes-small}
 
 -- ---- two lists of one length
 
@@ -43,72 +44,69 @@ module _ (xs ys : List ℕ) (l : length xs ≡ length ys) where
 
 -- ---- from place to place
 
--- the bytes after p, before e
-abbrev behind : List ℕ → ℕ → ℕ → List ℕ
-behind s p e = bytesAt s (p + 1) (e - (p + 1))
+-- nothing is left of either
+pub less-done : (a b : List ℕ) (p : ℕ) → length a ≤ p → length b ≤ p → ltb (number (drop p a)) (number (drop p b)) ≡ false
+unfolding number
+less-done a b p h k = rw (drop-of-length-le a {i = p} h, drop-of-length-le b {i = p} k)
 
-module _ (s : List ℕ) (p q e f : ℕ) where
-  -- none are left
-  pub less-done : e ≤ p → f ≤ q → ltb (number (bytesAt s p (e - p))) (number (bytesAt s q (f - q))) ≡ false
-  unfolding number
-  less-done h k = rw (bytes-end s p e h, bytes-end s q f k)
+module _ (a b : List ℕ) (p : ℕ) (l : length a ≡ length b) (h : p < length a) where
+  -- what is left of both begins with the bytes at p
+  next-a : drop p a ≡ getD a p 0 ∷ drop (suc p) a
+  next-a = drop-cons a p 0 h
 
-  module _ (small : (k : ℕ) → getD s k 0 < 256) (h : p < e) (k : e ≤ length s) (l : f ≤ length s)
-      (m : e - p ≡ f - q) where
-    -- as many are left of both
-    left-same : length (behind s p e) ≡ length (behind s q f)
-    left-same =
-        let a : length (behind s p e) ≡ e - (p + 1) = bytes-length s (p + 1) (e - (p + 1)) (omega arith) in
-        let b : length (behind s q f) ≡ f - (q + 1) = bytes-length s (q + 1) (f - (q + 1)) (omega arith) in
-        omega arith
+  next-b : drop p b ≡ getD b p 0 ∷ drop (suc p) b
+  next-b = drop-cons b p 0 (omega arith)
 
-    -- the byte at p is less
-    pub less-here : getD s p 0 < getD s q 0 → ltb (number (bytesAt s p (e - p))) (number (bytesAt s q (f - q))) ≡ true
-    less-here d =
-        let small = bytes-small s small (p + 1) (e - (p + 1)) in
-        let g = first-less (behind s p e) (behind s q f) left-same (getD s p 0) (getD s q 0) small d in
-        rw (bytes-next s p e h k, bytes-next s q f (omega arith) l) (lt-ltb _ _ g)
+  left-same : length (drop (suc p) a) ≡ length (drop (suc p) b)
+  left-same = let m = length-drop (suc p) a in let n = length-drop (suc p) b in omega arith
 
-    -- the byte at q is less
-    pub more-here : getD s q 0 < getD s p 0
-        → ltb (number (bytesAt s p (e - p))) (number (bytesAt s q (f - q))) ≡ false
-    more-here d =
-        let small = bytes-small s small (q + 1) (f - (q + 1)) in
-        let g = first-less (behind s q f) (behind s p e) (sym left-same) (getD s q 0) (getD s p 0) small d in
-        rw (bytes-next s p e h k, bytes-next s q f (omega arith) l) (le-ltb _ _ (le-of-lt g))
+  -- the byte of a is less
+  pub less-here : Bytes a → getD a p 0 < getD b p 0 → ltb (number (drop p a)) (number (drop p b)) ≡ true
+  less-here small d =
+      let g = first-less (drop (suc p) a) (drop (suc p) b) left-same (getD a p 0) (getD b p 0) (bytes-drop (suc p) a small) d in
+      rw (next-a, next-b) (lt-ltb _ _ g)
 
-    -- the two are the same
-    pub same-here : getD s p 0 ≡ getD s q 0
-        → ltb (number (behind s p e)) (number (behind s q f)) ≡ ltb (number (bytesAt s p (e - p)))
-        (number (bytesAt s q (f - q)))
-    same-here d =
-        rw (bytes-next s p e h k, bytes-next s q f (omega arith) l, d)
-        (sym (first-same (behind s p e) (behind s q f) left-same (getD s q 0)))
+  -- the byte of b is less
+  pub more-here : Bytes b → getD b p 0 < getD a p 0 → ltb (number (drop p a)) (number (drop p b)) ≡ false
+  more-here small d =
+      let g = first-less (drop (suc p) b) (drop (suc p) a) (sym left-same) (getD b p 0) (getD a p 0) (bytes-drop (suc p) b small) d in
+      rw (next-a, next-b) (le-ltb _ _ (le-of-lt g))
+
+  -- the two are the same
+  pub same-here : getD a p 0 ≡ getD b p 0
+      → ltb (number (drop (p + 1) a)) (number (drop (p + 1) b)) ≡ ltb (number (drop p a)) (number (drop p b))
+  same-here d =
+      let e : p + 1 ≡ suc p = omega arith in
+      rw (e, next-a, next-b, d) (sym (first-same (drop (suc p) a) (drop (suc p) b) left-same (getD b p 0)))
 
 -- ---- numbers of two lengths
 
-module _ (s : List ℕ) (i d n : ℕ) (fits : i + d + n ≤ length s) where
+-- the last m bytes of s, and those in front
+module _ (s : List ℕ) (m : ℕ) (h : m ≤ length s) where
+  parts : number s ≡ number (bytesAt s 0 (length s - m)) * 256 ^ m + number (drop (length s - m) s)
+  unfolding bytesAt
+  parts =
+      let d = length s - m in
+      let e : d + m ≡ length s = omega arith in
+      let z : 0 + d ≡ d = omega arith in
+      let l = length-drop d s in
+      ap number (sym (bytes-all s)) ∙ ap (λ (k : ℕ). number (bytesAt s 0 k)) (sym e)
+      ∙ number-join s 0 d m (omega arith)
+      ∙ ap (λ (k : ℕ). number (bytesAt s 0 d) * 256 ^ m + number (bytesAt s k m)) z
+      ∙ ap (λ (y : List ℕ). number (bytesAt s 0 d) * 256 ^ m + number y) (take-all m (drop d s) (omega arith))
+
   -- zeros in front change no number
-  pub front-zero : allZero (bytesAt s i d) ≡ true → number (bytesAt s i (d + n)) ≡ number (bytesAt s (i + d) n)
+  pub front-zero : allZero (bytesAt s 0 (length s - m)) ≡ true → number s ≡ number (drop (length s - m) s)
   front-zero t =
-      let z : number (bytesAt s i d) ≡ 0
-      = eqb-true (number (bytesAt s i d)) 0 (sym (zero-number (bytesAt s i d)) ∙ t) in
-      let m : number (bytesAt s i d) * 256 ^ n ≡ 0 = ap (λ (k : ℕ). k * 256 ^ n) z ∙ zero-mul (256 ^ n) in
-      omega (arith, number-join s i d n fits)
+      let v = number (bytesAt s 0 (length s - m)) in
+      let z : v ≡ 0 = eqb-true v 0 (sym (zero-number (bytesAt s 0 (length s - m))) ∙ t) in
+      let q : v * 256 ^ m ≡ 0 = ap (λ (k : ℕ). k * 256 ^ m) z ∙ zero-mul (256 ^ m) in
+      omega (arith, parts)
 
-  -- anything else in front makes it more than n bytes can hold
-  pub front-some : allZero (bytesAt s i d) ≡ false → 256 ^ n ≤ number (bytesAt s i (d + n))
+  -- anything else in front makes it more than m bytes can hold
+  pub front-some : allZero (bytesAt s 0 (length s - m)) ≡ false → 256 ^ m ≤ number s
   front-some t =
-      let v = number (bytesAt s i d) in
-      let z : 0 < v = pos-of-ne-zero (eqb-false v 0 (sym (zero-number (bytesAt s i d)) ∙ t)) in
-      let m : 1 * 256 ^ n ≤ v * 256 ^ n = mul-le-mul-right (256 ^ n) z in
-      omega (arith, number-join s i d n fits, one-mul (256 ^ n))
-
--- n bytes hold less
-pub below-all : (s : List ℕ) → ((k : ℕ) → getD s k 0 < 256) → (i n : ℕ) → i + n ≤ length s
-    → number (bytesAt s i n) < 256 ^ n
-below-all s small i n h =
-    let l : length (bytesAt s i n) ≡ n = bytes-length s i n h in
-    let b : number (bytesAt s i n) < 256 ^ length (bytesAt s i n)
-    = number-below (bytesAt s i n) (bytes-small s small i n) in
-    rw l at b
+      let v = number (bytesAt s 0 (length s - m)) in
+      let z : 0 < v = pos-of-ne-zero (eqb-false v 0 (sym (zero-number (bytesAt s 0 (length s - m))) ∙ t)) in
+      let q : 1 * 256 ^ m ≤ v * 256 ^ m = mul-le-mul-right (256 ^ m) z in
+      omega (arith, parts, one-mul (256 ^ m))

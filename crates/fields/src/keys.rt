@@ -3,7 +3,7 @@ ghost use mathlib.Core.Path.{_≡_};
 ghost use Prim.Native.Nat.{_+_, _/_, _≤_};
 ghost use lib.Dec.{ltb};
 ghost use lib.ListN.{length};
-ghost use Rattle.format.specs.Bytes.{number, bytesAt};
+ghost use Rattle.format.specs.Bytes.{number};
 ghost use Rattle.format.specs.Forms.{keyLength, modulusForm, exponentForm};
 use crate::all_zero;
 
@@ -17,60 +17,56 @@ pub fn key_length(n: u8) -> bool
     }
 }
 
-// The n bytes at i, the fewest that hold that many bits, are an odd number of exactly so many significant bits: the first
-// byte has its highest bit where the last of the bits stands, and the last byte is odd.
-pub fn modulus_form(s: &[u8], i: usize, n: usize, bits: usize) -> bool
-    requires { ⌜ (i + n ≤ length (now s)) × ((512 ≤ bits) × ((bits ≤ 4096) × (n ≡ (bits + 7) / 8))) ⌝ }
-    ensures { λ r. ⌜ r ≡ modulusForm bits (bytesAt (now (s .entry)) i n) ⌝ }
+// The bytes, the fewest that hold that many bits, are an odd number of exactly so many significant bits: the first byte has
+// its highest bit where the last of the bits stands, and the last byte is odd.
+pub fn modulus_form(modulus: &[u8], bits: usize) -> bool
+    requires { ⌜ (512 ≤ bits) × (bits ≤ 4096) × (length (now modulus) ≡ (bits + 7) / 8) ⌝ }
+    ensures { λ r. ⌜ r ≡ modulusForm bits (now (modulus .entry)) ⌝ }
 {
-    if s[i] >> ((bits - 1) % 8) != 1 {
+    if modulus[0] >> ((bits - 1) % 8) != 1 {
         return false;
     }
-    s[i + n - 1] % 2 == 1
+    modulus[modulus.len() - 1] % 2 == 1
 }
 
-// The number in the n bytes at i is less than that in the n bytes at j: the first bytes that differ decide.
-fn less(s: &[u8], i: usize, j: usize, n: usize) -> bool
-    requires { ⌜ (i + n ≤ length (now s)) × (j + n ≤ length (now s)) ⌝ }
-    ensures { λ r. ⌜ r ≡ ltb (number (bytesAt (now (s .entry)) i n)) (number (bytesAt (now (s .entry)) j n)) ⌝ }
+// The number in the bytes a is less than that in as many bytes b: the first bytes that differ decide.
+fn less(a: &[u8], b: &[u8]) -> bool
+    requires { ⌜ length (now a) ≡ length (now b) ⌝ }
+    ensures { λ r. ⌜ r ≡ ltb (number (now (a .entry))) (number (now (b .entry))) ⌝ }
 {
-    let e = i + n;
-    let mut p = i;
-    let mut q = j;
-    while p < e {
-        let a = s[p];
-        let b = s[q];
-        if a < b {
+    let mut p = 0;
+    while p < a.len() {
+        let x = a[p];
+        let y = b[p];
+        if x < y {
             return true;
         }
-        if b < a {
+        if y < x {
             return false;
         }
         p += 1;
-        q += 1;
     }
     false
 }
 
-// The exponent in the x bytes at i is odd, and less than the modulus in the y bytes at j. What the longer of the two has
-// in front must be 0, or decides.
-pub fn exponent_form(s: &[u8], i: usize, x: usize, j: usize, y: usize) -> bool
-    requires { ⌜ (i + x ≤ length (now s)) × ((j + y ≤ length (now s)) × (1 ≤ x)) ⌝ }
-    ensures { λ r. ⌜ r ≡ exponentForm (bytesAt (now (s .entry)) i x) (bytesAt (now (s .entry)) j y) ⌝ }
+// The exponent is odd, and less than the modulus. What the longer of the two has in front must be 0, or decides.
+pub fn exponent_form(exponent: &[u8], modulus: &[u8]) -> bool
+    requires { ⌜ 1 ≤ length (now exponent) ⌝ }
+    ensures { λ r. ⌜ r ≡ exponentForm (now (exponent .entry)) (now (modulus .entry)) ⌝ }
 {
-    if s[i + x - 1] % 2 != 1 {
+    if exponent[exponent.len() - 1] % 2 != 1 {
         return false;
     }
-    if y < x {
-        let d = x - y;
-        if all_zero(s, i, d) {
-            return less(s, i + d, j, y);
+    if modulus.len() < exponent.len() {
+        let d = exponent.len() - modulus.len();
+        if all_zero(exponent, 0, d) {
+            return less(&exponent[d..], modulus);
         }
         return false;
     }
-    let d = y - x;
-    if all_zero(s, j, d) {
-        return less(s, i, j + d, x);
+    let d = modulus.len() - exponent.len();
+    if all_zero(modulus, 0, d) {
+        return less(exponent, &modulus[d..]);
     }
     true
 }

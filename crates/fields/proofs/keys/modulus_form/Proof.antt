@@ -1,7 +1,7 @@
 -- The modulus, by the bits of its first byte and the parity of its last. Assumes nothing.
-use native.Mathlib.Omega.{arith}
 use mathlib.Core.Path.{sym}
-use Rattle.fields.proofs.Sizes.{modulus-not, modulus-last}
+use native.Mathlib.Omega.{arith}
+use Rattle.fields.proofs.Sizes.{bytes-of, modulus-not, modulus-last}
 use borrow.Author.Needs.{needs}
 use Rattle.fields.proofs.keys.modulus_form.Statement.{statement}
 use Rattle.fields.proofs.keys.modulus_form.Tie as tie
@@ -20,14 +20,9 @@ shr-if1 c = search needs
 
 returns : tie.Need-returns
 returns c =
-    let a = c .before .before in
-    sym
-    (modulus-not (a .args .s .now) (λ k. (c .before .shared-slice-known .given k) .fits) (a .args .i) (a .args .n)
-    (a .pre .0) (a .args .bits) (omega arith) (a .pre .1 .1 .1)
-    (c .if1 .taken))
-
-add-result : tie.Need-add-result
-add-result c = search needs
+    let m = c .before .before .args .modulus .now in
+    let p = c .before .before .pre in
+    sym (modulus-not m (bytes-of m (λ k. (c .before .shared-slice-known .given k) .fits)) (c .before .before .args .bits) (omega (arith, p .0)) (p .2) (c .if1 .taken))
 
 sub-result : tie.Need-sub-result
 sub-result c = search needs
@@ -37,11 +32,9 @@ shared-slice-read-result c = search needs
 
 returns-2 : tie.Need-returns-2
 returns-2 c =
-    let a = c .before .before .before in
-    sym
-    (modulus-last (a .args .s .now) (λ k. (c .before .before .shared-slice-known .given k) .fits) (a .args .i)
-    (a .args .n) (a .pre .0) (a .args .bits) (omega arith) (a .pre .1 .1 .1)
-    (c .before .if1 .left))
+    let m = c .before .before .before .args .modulus .now in
+    let p = c .before .before .before .pre in
+    sym (modulus-last m (bytes-of m (λ k. (c .before .before .shared-slice-known .given k) .fits)) (c .before .before .before .args .bits) (omega (arith, p .0)) (p .2) (c .before .if1 .left))
 
 pub modulus-form-spec : {M : Type 1} → statement M
 modulus-form-spec =
@@ -52,7 +45,6 @@ modulus-form-spec =
     cast-if1
     shr-if1
     returns
-    add-result
     sub-result
     shared-slice-read-result
     returns-2)
