@@ -73,6 +73,13 @@ head-pass {h} {n} (c ∷ cs) ds f e z q =
     let s = and-split (not (eqb (c .refusal) 0)) (numbered cs) f in
     pass-case (c .holds) h (firstRefusal cs) n (firstRefusal (cs ++ ds)) (c .refusal) (s .0) e z (λ w. head-pass cs ds (s .1) w z q)
 
+-- a test that passes, at the end
+pub pass-last : {n : ℕ} (cs : List Check) (c : Check) → c .holds ≡ true → n ≡ firstRefusal cs → n ≡ firstRefusal (cs ++ c ∷ [])
+unfolding firstRefusal
+pass-last [] c h e = e ∙ sym (rw h)
+pass-last {n} (d ∷ cs) c h e =
+    stop-case (d .holds) n (firstRefusal cs) (firstRefusal (cs ++ c ∷ [])) (d .refusal) e (λ q. pass-last cs c h q)
+
 -- a refusal in front of another
 pub unless-zero : {n : ℕ} (at : ℕ) (a : Answer) → n ≡ 0 → unless n at a ≡ a
 unfolding unless

@@ -3,12 +3,12 @@ use mathlib.Core.Bool.{Bool, true, false, not, _&&_}
 use mathlib.Core.List.{List, [], _∷_}
 use Prim.Native.Nat.{ℕ, zero, suc}
 use lib.Dec.{leb}
-use lib.ListN.{length, take}
+use lib.ListN.{length}
 use mathlib.Core.Option.{none, some}
 use Rattle.format.specs.Bytes.{number, allZero, bytesAt}
-use Rattle.format.specs.Parts.{Kind, publicKey, Part}
-use Rattle.format.specs.Reading.{subsectionKind, stated, partIn, subsectionChecks}
-use Rattle.format.specs.Rules.{Check, check, checks, Section, has}
+use Rattle.format.specs.Parts.{Kind, Part}
+use Rattle.format.specs.Reading.{subsectionKind, stated, subsectionChecks}
+use Rattle.format.specs.Rules.{Check, check, Section, has}
 use Rattle.format.specs.declared.Answer.{Answer}
 use Rattle.format.specs.declared.Answer.the-variants.{Refused}
 
@@ -53,7 +53,3 @@ subRefusal x o before n r =
             | some k ↦ firstRefusal (subsectionChecks x k (has k before) n r)
           ]
     ]
-
--- the rules on the exponent and the modulus of the section 11 at the front of r
-unfoldable pub keyChecks : List ℕ → List Check
-keyChecks r = take 5 (checks false publicKey (partIn publicKey r .fields))

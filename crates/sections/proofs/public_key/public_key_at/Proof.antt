@@ -1,14 +1,18 @@
 -- Section 11: its head, its inner lengths, its fields.
-use Rattle.sections.proofs.KeyLaws.{made-yes, made-not, flags-is, flag-yes, flag-not}
-use Rattle.sections.proofs.Heads.{head-room}
-use Rattle.sections.specs.Refusals.{keyChecks}
-use Rattle.sections.specs.Refusals.{headChecks}
-use Rattle.sections.proofs.Laws.{stop, pass, none, head-stop, head-pass, zero-yes, zero-not, number-at}
-use Rattle.format.specs.Bytes.{number, bytesAt}
-use lib.ListN.{length, drop}
+use mathlib.Core.Path.{_≡_, refl, ap₂, _∙_}
+use mathlib.Core.Bool.{false}
+use mathlib.Core.List.{List, [], _∷_}
+use Prim.Native.Nat.{ℕ, _+_, _≤_}
 use native.Mathlib.Omega.{arith}
-use Prim.Native.Nat.{_+_, _≤_}
-use mathlib.Core.Path.{_≡_, refl, _∙_}
+use lib.ListN.{length, drop}
+use Rattle.format.specs.Bytes.{number, bytesAt}
+use Rattle.format.specs.Parts.{publicKey}
+use Rattle.format.specs.Rules.{checks}
+use Rattle.format.specs.Reading.{partIn}
+use Rattle.sections.specs.Refusals.{firstRefusal, headChecks}
+use Rattle.sections.proofs.Laws.{stop, pass, head-stop, head-pass, pass-last, zero-yes, zero-not, number-at}
+use Rattle.sections.proofs.Heads.{head-room}
+use Rattle.sections.proofs.KeyLaws.{made-yes, made-not, exponent-at, modulus-at, flags-at}
 use borrow.Author.Needs.{needs}
 use Rattle.sections.proofs.public_key.public_key_at.Statement.{statement}
 use Rattle.sections.proofs.public_key.public_key_at.Tie as tie
@@ -17,7 +21,7 @@ section-head-requires : tie.Need-section-head-requires
 section-head-requires c κs = search needs
 
 returns : tie.Need-returns
-unfolding headChecks keyChecks
+unfolding headChecks
 returns c =
     λ x′ repeated.
     let s = c .before .before .before .args .s .now in
@@ -60,7 +64,7 @@ two-requires-3 : tie.Need-two-requires-3
 two-requires-3 c κs = search needs
 
 returns-2 : tie.Need-returns-2
-unfolding headChecks keyChecks
+unfolding headChecks
 returns-2 c =
     λ x′ repeated.
     let s = c .before .before .before .before .before .before .before .args .s .now in
@@ -74,7 +78,7 @@ returns-2 c =
     let ey = c .before .before .two2 .ensures .0 in
     let el = c .before .two3 .ensures .0 in
     head-pass (headChecks 16 seen r) _ refl h (c .before .before .before .before .if1 .left)
-    (stop _ _ (made-not s p x y _ ex ey el (c .if2 .taken)))
+    (stop _ _ (made-not s p x y ex ey _ el (c .if2 .taken)))
 
 add-two-4 : tie.Need-add-two-4
 add-two-4 c = search needs
@@ -87,7 +91,7 @@ two-requires-4 c κs =
     omega (arith, m .0, m .1)
 
 returns-3 : tie.Need-returns-3
-unfolding headChecks keyChecks
+unfolding headChecks
 returns-3 c =
     λ x′ repeated.
     let s = c .before .before .before .before .before .before .before .before .before .args .s .now in
@@ -101,107 +105,96 @@ returns-3 c =
     let ey = c .before .before .before .before .two2 .ensures .0 in
     let el = c .before .before .before .two3 .ensures .0 in
     head-pass (headChecks 16 seen r) _ refl h (c .before .before .before .before .before .before .if1 .left)
-    (pass _ _ (made-yes s p x y _ ex ey el (c .before .before .if2 .left))
+    (pass _ _ (made-yes s p x y ex ey _ el (c .before .before .if2 .left))
     (stop _ _ (zero-not s p 4 2 (c .before .two4 .ensures .0) (c .if3 .taken))))
 
-key-numbers-requires : tie.Need-key-numbers-requires
-key-numbers-requires c κs =
+add-modulus-at : tie.Need-add-modulus-at
+add-modulus-at c = search needs
+
+add-modulus-at-2 : tie.Need-add-modulus-at-2
+add-modulus-at-2 c = search needs
+
+add-flags-at : tie.Need-add-flags-at
+add-flags-at c = search needs
+
+add-two-5 : tie.Need-add-two-5
+add-two-5 c = search needs
+
+two-requires-5 : tie.Need-two-requires-5
+two-requires-5 c κs =
     let s = c .before .before .before .before .before .before .before .before .before .args .s .now in
     let p = c .before .before .before .before .before .before .before .before .before .args .p in
     let m = head-room 16 (c .before .before .before .before .before .before .before .before .before .args .seen) s p (c .before .before .before .before .before .before .before .section-head .ensures) (c .before .before .before .before .before .before .if1 .left) in
-    let x = c .before .before .before .before .before .two .result in
-    let y = c .before .before .before .before .two2 .result in
-    let ex = c .before .before .before .before .before .two .ensures .0 in
-    let ey = c .before .before .before .before .two2 .ensures .0 in
-    let el = c .before .before .before .two3 .ensures .0 in
-    let l : c .before .before .before .two3 .result ≡ number (bytesAt (drop p s) 2 2) = number-at s p 2 2 el in
-    let room : p + 16 + x + y ≤ length s = omega (arith, m .1, c .before .before .if2 .left) in
-    (room, search needs, ex, ey)
-
-returns-4 : tie.Need-returns-4
-unfolding headChecks keyChecks
-returns-4 c =
-    λ x′ repeated.
-    let s = c .before .before .before .before .before .before .before .before .before .before .before .args .s .now in
-    let p = c .before .before .before .before .before .before .before .before .before .before .before .args .p in
-    let seen = c .before .before .before .before .before .before .before .before .before .before .before .args .seen in
-    let r = drop p s in
-    let h = c .before .before .before .before .before .before .before .before .before .section-head .ensures in
-    let x = c .before .before .before .before .before .before .before .two .result in
-    let y = c .before .before .before .before .before .before .two2 .result in
-    let ex = c .before .before .before .before .before .before .before .two .ensures .0 in
-    let ey = c .before .before .before .before .before .before .two2 .ensures .0 in
-    let el = c .before .before .before .before .before .two3 .ensures .0 in
-    head-pass (headChecks 16 seen r) _ refl h (c .before .before .before .before .before .before .before .before .if1 .left)
-    (pass _ _ (made-yes s p x y _ ex ey el (c .before .before .before .before .if2 .left))
-    (pass _ _ (zero-yes s p 4 2 (c .before .before .before .two4 .ensures .0) (c .before .before .if3 .left))
-    (head-stop (keyChecks r) _ (c .before .key-numbers .ensures) (c .if4 .taken))))
-
-add-four : tie.Need-add-four
-add-four c = search needs
-
-add-four-2 : tie.Need-add-four-2
-add-four-2 c = search needs
-
-add-four-3 : tie.Need-add-four-3
-add-four-3 c = search needs
+    let l : c .before .before .before .two3 .result ≡ number (bytesAt (drop p s) 2 2) = number-at s p 2 2 (c .before .before .before .two3 .ensures .0) in
+    let fits : p + 16 + c .before .before .before .before .before .two .result + c .before .before .before .before .two2 .result ≤ length s = omega (arith, m .1, c .before .before .if2 .left) in
+    omega arith
 
 four-requires : tie.Need-four-requires
 four-requires c κs =
+    let s = c .before .before .before .before .before .before .before .before .before .before .args .s .now in
+    let p = c .before .before .before .before .before .before .before .before .before .before .args .p in
+    let m = head-room 16 (c .before .before .before .before .before .before .before .before .before .before .args .seen) s p (c .before .before .before .before .before .before .before .before .section-head .ensures) (c .before .before .before .before .before .before .before .if1 .left) in
+    let l : c .before .before .before .before .two3 .result ≡ number (bytesAt (drop p s) 2 2) = number-at s p 2 2 (c .before .before .before .before .two3 .ensures .0) in
+    let fits : p + 16 + c .before .before .before .before .before .before .two .result + c .before .before .before .before .before .two2 .result ≤ length s = omega (arith, m .1, c .before .before .before .if2 .left) in
+    omega arith
+
+add-key-fields : tie.Need-add-key-fields
+add-key-fields c = search needs
+
+sub-key-fields : tie.Need-sub-key-fields
+sub-key-fields c = search needs
+
+part-key-fields-start : tie.Need-part-key-fields-start
+part-key-fields-start c = search needs
+
+part-key-fields-end : tie.Need-part-key-fields-end
+part-key-fields-end c =
     let s = c .before .before .before .before .before .before .before .before .before .before .before .args .s .now in
     let p = c .before .before .before .before .before .before .before .before .before .before .before .args .p in
     let m = head-room 16 (c .before .before .before .before .before .before .before .before .before .before .before .args .seen) s p (c .before .before .before .before .before .before .before .before .before .section-head .ensures) (c .before .before .before .before .before .before .before .before .if1 .left) in
-    let x = c .before .before .before .before .before .before .before .two .result in
-    let y = c .before .before .before .before .before .before .two2 .result in
-    let ex = c .before .before .before .before .before .before .before .two .ensures .0 in
-    let ey = c .before .before .before .before .before .before .two2 .ensures .0 in
-    let el = c .before .before .before .before .before .two3 .ensures .0 in
-    let l : c .before .before .before .before .before .two3 .result ≡ number (bytesAt (drop p s) 2 2) = number-at s p 2 2 el in
-    let room : p + 16 + x + y ≤ length s = omega (arith, m .1, c .before .before .before .before .if2 .left) in
+    let l : c .before .before .before .before .before .two3 .result ≡ number (bytesAt (drop p s) 2 2) = number-at s p 2 2 (c .before .before .before .before .before .two3 .ensures .0) in
+    let fits : p + 16 + c .before .before .before .before .before .before .before .two .result + c .before .before .before .before .before .before .two2 .result ≤ length s = omega (arith, m .1, c .before .before .before .before .if2 .left) in
     omega arith
 
-returns-5 : tie.Need-returns-5
-unfolding headChecks keyChecks
-returns-5 c =
-    λ x′ repeated.
-    let s = c .before .before .before .before .before .before .before .before .before .before .before .before .before .args .s .now in
-    let p = c .before .before .before .before .before .before .before .before .before .before .before .before .before .args .p in
-    let seen = c .before .before .before .before .before .before .before .before .before .before .before .before .before .args .seen in
-    let r = drop p s in
-    let h = c .before .before .before .before .before .before .before .before .before .before .before .section-head .ensures in
-    let x = c .before .before .before .before .before .before .before .before .before .two .result in
-    let y = c .before .before .before .before .before .before .before .before .two2 .result in
-    let ex = c .before .before .before .before .before .before .before .before .before .two .ensures .0 in
-    let ey = c .before .before .before .before .before .before .before .before .two2 .ensures .0 in
-    let el = c .before .before .before .before .before .before .before .two3 .ensures .0 in
-    let room : p + 16 + x + y ≤ length s = (let m = head-room 16 seen s p h (c .before .before .before .before .before .before .before .before .before .before .if1 .left) in let l : c .before .before .before .before .before .before .before .two3 .result ≡ number (bytesAt (drop p s) 2 2) = number-at s p 2 2 el in omega (arith, m .1, c .before .before .before .before .before .before .if2 .left)) in
-    head-pass (headChecks 16 seen r) _ refl h (c .before .before .before .before .before .before .before .before .before .before .if1 .left)
-    (pass _ _ (made-yes s p x y _ ex ey el (c .before .before .before .before .before .before .if2 .left))
-    (pass _ _ (zero-yes s p 4 2 (c .before .before .before .before .before .two4 .ensures .0) (c .before .before .before .before .if3 .left))
-    (head-pass (keyChecks r) _ refl (c .before .before .before .key-numbers .ensures) (c .before .before .if4 .left)
-    (pass _ _ (flags-is s p x y room ex ey (c .before .four .ensures) ∙ flag-yes _ (c .match .keys1))
-    (pass _ _ refl none)))))
+sub-key-fields-2 : tie.Need-sub-key-fields-2
+sub-key-fields-2 c = search needs
 
-returns-6 : tie.Need-returns-6
-unfolding headChecks keyChecks
-returns-6 c =
+part-key-fields-start-2 : tie.Need-part-key-fields-start-2
+part-key-fields-start-2 c = search needs
+
+part-key-fields-end-2 : tie.Need-part-key-fields-end-2
+part-key-fields-end-2 c =
+    let s = c .before .before .before .before .before .before .before .before .before .before .before .before .args .s .now in
+    let p = c .before .before .before .before .before .before .before .before .before .before .before .before .args .p in
+    let m = head-room 16 (c .before .before .before .before .before .before .before .before .before .before .before .before .args .seen) s p (c .before .before .before .before .before .before .before .before .before .before .section-head .ensures) (c .before .before .before .before .before .before .before .before .before .if1 .left) in
+    let l : c .before .before .before .before .before .before .two3 .result ≡ number (bytesAt (drop p s) 2 2) = number-at s p 2 2 (c .before .before .before .before .before .before .two3 .ensures .0) in
+    let fits : p + 16 + c .before .before .before .before .before .before .before .before .two .result + c .before .before .before .before .before .before .before .two2 .result ≤ length s = omega (arith, m .1, c .before .before .before .before .before .if2 .left) in
+    omega arith
+
+key-fields-requires : tie.Need-key-fields-requires
+key-fields-requires c κs = search needs
+
+returns-4 : tie.Need-returns-4
+unfolding headChecks bytesAt
+returns-4 c =
     λ x′ repeated.
-    let s = c .before .before .before .before .before .before .before .before .before .before .before .before .before .args .s .now in
-    let p = c .before .before .before .before .before .before .before .before .before .before .before .before .before .args .p in
-    let seen = c .before .before .before .before .before .before .before .before .before .before .before .before .before .args .seen in
+    let s = c .before .before .before .before .before .before .before .before .before .before .before .before .before .before .args .s .now in
+    let p = c .before .before .before .before .before .before .before .before .before .before .before .before .before .before .args .p in
+    let seen = c .before .before .before .before .before .before .before .before .before .before .before .before .before .before .args .seen in
     let r = drop p s in
-    let h = c .before .before .before .before .before .before .before .before .before .before .before .section-head .ensures in
-    let x = c .before .before .before .before .before .before .before .before .before .two .result in
-    let y = c .before .before .before .before .before .before .before .before .two2 .result in
-    let ex = c .before .before .before .before .before .before .before .before .before .two .ensures .0 in
-    let ey = c .before .before .before .before .before .before .before .before .two2 .ensures .0 in
-    let el = c .before .before .before .before .before .before .before .two3 .ensures .0 in
-    let room : p + 16 + x + y ≤ length s = (let m = head-room 16 seen s p h (c .before .before .before .before .before .before .before .before .before .before .if1 .left) in let l : c .before .before .before .before .before .before .before .two3 .result ≡ number (bytesAt (drop p s) 2 2) = number-at s p 2 2 el in omega (arith, m .1, c .before .before .before .before .before .before .if2 .left)) in
-    head-pass (headChecks 16 seen r) _ refl h (c .before .before .before .before .before .before .before .before .before .before .if1 .left)
-    (pass _ _ (made-yes s p x y _ ex ey el (c .before .before .before .before .before .before .if2 .left))
-    (pass _ _ (zero-yes s p 4 2 (c .before .before .before .before .before .two4 .ensures .0) (c .before .before .before .before .if3 .left))
-    (head-pass (keyChecks r) _ refl (c .before .before .before .key-numbers .ensures) (c .before .before .if4 .left)
-    (stop _ _ (flags-is s p x y room ex ey (c .before .four .ensures) ∙ flag-not _ (c .match .rest .1))))))
+    let h = c .before .before .before .before .before .before .before .before .before .before .before .before .section-head .ensures in
+    let x = c .before .before .before .before .before .before .before .before .before .before .two .result in
+    let y = c .before .before .before .before .before .before .before .before .before .two2 .result in
+    let ex = c .before .before .before .before .before .before .before .before .before .before .two .ensures .0 in
+    let ey = c .before .before .before .before .before .before .before .before .before .two2 .ensures .0 in
+    let el = c .before .before .before .before .before .before .before .before .two3 .ensures .0 in
+    head-pass (headChecks 16 seen r) _ refl h (c .before .before .before .before .before .before .before .before .before .before .before .if1 .left)
+    (pass _ _ (made-yes s p x y ex ey _ el (c .before .before .before .before .before .before .before .if2 .left))
+    (pass _ _ (zero-yes s p 4 2 (c .before .before .before .before .before .before .two4 .ensures .0) (c .before .before .before .before .before .if3 .left))
+    (pass-last (checks x′ publicKey (partIn publicKey r .fields)) _ refl
+    (c .key-fields .ensures (bytesAt r 8 2) (bytesAt r (12 + number (bytesAt r 6 2) + number (bytesAt r 10 2)) 4) (number-at s p 8 2 (c .before .before .before .before .two5 .ensures .0)) (flags-at s p x y ex ey (c .before .before .before .four .ensures))
+    ∙ ap₂ (λ (e m : List ℕ). firstRefusal (checks false publicKey (bytesAt r 8 2 ∷ e ∷ m ∷ bytesAt r (12 + number (bytesAt r 6 2) + number (bytesAt r 10 2)) 4 ∷ [])))
+    (exponent-at s p x y ex ey) (modulus-at s p x y ex ey)))))
 
 pub public-key-at-spec : {M : Type 1} → statement M
 public-key-at-spec =
@@ -221,11 +214,18 @@ public-key-at-spec =
     add-two-4
     two-requires-4
     returns-3
-    key-numbers-requires
-    returns-4
-    add-four
-    add-four-2
-    add-four-3
+    add-modulus-at
+    add-modulus-at-2
+    add-flags-at
+    add-two-5
+    two-requires-5
     four-requires
-    returns-5
-    returns-6)
+    add-key-fields
+    sub-key-fields
+    part-key-fields-start
+    part-key-fields-end
+    sub-key-fields-2
+    part-key-fields-start-2
+    part-key-fields-end-2
+    key-fields-requires
+    returns-4)
