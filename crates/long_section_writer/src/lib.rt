@@ -1,26 +1,46 @@
-// Public: the additions of the two sections that can be longer than any draft, the public key and the application data. Each
-// makes the section's bytes in an array of its own and adds them. The calls ask nothing.
-// All contracts here are one but for the kind and its fields: the answer is `writeAnswer (addition KIND FIELDS draft)`, and
-// the draft then holds `draftAfter` of the same.
+// Public: the additions of the two sections that can be long, the public key and the application data. Each is judged as it
+// was lent, and then written where it is to stand, so that its bytes are copied once. The calls ask nothing.
+// All contracts of the calls are one but for the kind and its fields: the answer is `writeAnswer (addition KIND FIELDS draft)`,
+// and the draft then holds `draftAfter` of the same.
 ghost use mathlib.Core.Path.{_≡_};
 ghost use mathlib.Core.List.{_∷_, []};
+ghost use Prim.Native.Nat.{_+_, _≤_};
+ghost use lib.ListN.{length};
+ghost use Rattle.format.specs.Layout.{write};
 ghost use Rattle.format.specs.Parts as Parts;
 ghost use Rattle.format.specs.Writer.{writeAnswer, draftAfter, addition, publicKeyFields};
-use drafts::add_section;
+ghost use Rattle.storing.specs.Storing.{Stored};
 use drafts::heads::section_head;
 use drafts::not_fitting;
 use format::Answer;
 use placing::place_for;
+use sections::public_key::key_fields;
 use storing::put;
 use storing::put_four;
 use storing::put_two;
 
-// The bytes of the longest token.
-const TOKEN: usize = 3500;
-
-// What its header leaves of them. A longer section has no room in any draft, whatever its bytes are: TOKEN bytes are added
-// in its place and give the same answer.
-const ROOM: usize = 3492;
+// The bytes of section 11, n in all, from the place `at` on.
+fn put_key(
+    draft: &mut [u8],
+    at: usize,
+    n: usize,
+    modulus_bits: u16,
+    exponent: &[u8],
+    modulus: &[u8],
+    flags: u32,
+) -> usize
+    requires { ⌜ (n ≡ 16 + length (now exponent) + length (now modulus)) × (at + n ≤ length (now draft)) × (at + n ≤ 3500) ⌝ }
+    ensures { λ r. ⌜ Stored (now (draft .entry)) at (write n (Parts.layout Parts.publicKey) (publicKeyFields «modulus_bits» (now (exponent .entry)) (now (modulus .entry)) flags)) (now (draft .exit)) r ⌝ }
+{
+    let zeros_at = section_head(draft, at, 0x11, n);
+    let exponent_count_at = put_two(draft, zeros_at, 0);
+    let bits_at = put_two(draft, exponent_count_at, exponent.len());
+    let modulus_count_at = put_two(draft, bits_at, modulus_bits as usize);
+    let exponent_at = put_two(draft, modulus_count_at, modulus.len());
+    let modulus_at = put(draft, exponent_at, exponent);
+    let flags_at = put(draft, modulus_at, modulus);
+    put_four(draft, flags_at, flags)
+}
 
 // Section 11, the public key: the bits of its modulus, its exponent and modulus, and its flags.
 pub fn public_key(
@@ -39,20 +59,20 @@ pub fn public_key(
     if 65535 < modulus.len() {
         return not_fitting(draft);
     }
-    let mut part = [0u8; TOKEN];
     let n = 16 + exponent.len() + modulus.len();
-    if ROOM < n {
-        return add_section(draft, &mut part);
+    let a = place_for(draft, 0x11, n);
+    match a {
+        Answer::Refused(number, place) => Answer::Refused(number, place),
+        Answer::Accepted(l) => {
+            let f = key_fields(modulus_bits as usize, exponent, modulus, flags);
+            if f != 0 {
+                return Answer::Refused(f, l);
+            }
+            let end = put_key(draft, l as usize, n, modulus_bits, exponent, modulus, flags);
+            let _next = put_two(draft, 2, end);
+            Answer::Accepted(end as u32)
+        }
     }
-    let zeros_at = section_head(&mut part, 0, 0x11, n);
-    let exponent_count_at = put_two(&mut part, zeros_at, 0);
-    let bits_at = put_two(&mut part, exponent_count_at, exponent.len());
-    let modulus_count_at = put_two(&mut part, bits_at, modulus_bits as usize);
-    let exponent_at = put_two(&mut part, modulus_count_at, modulus.len());
-    let modulus_at = put(&mut part, exponent_at, exponent);
-    let flags_at = put(&mut part, modulus_at, modulus);
-    let end = put_four(&mut part, flags_at, flags);
-    add_section(draft, &mut part[..end])
 }
 
 // Section 15, the application data: any bytes.

@@ -5,10 +5,9 @@ use mathlib.Core.List.{List, [], _∷_, _++_, map}
 use Prim.Native.Nat.{ℕ, suc, _+_, _*_, _<_, _≤_}
 use native.Mathlib.Omega.{arith}
 use lib.Dec.{leb}
-use lib.ListN.{length, getD, drop}
+use lib.ListN.{length, drop}
 use lib.Seq.{sets-eq}
 use borrow.Author.Tests.{le-leb, lt-leb}
-use Rattle.format.specs.Bytes.{Bytes}
 use Rattle.format.specs.Parts.{Part}
 use Rattle.format.specs.Rules.{Section}
 use Rattle.format.specs.Reading.{Outcome, refused, found, fault, need, andThen, asAnswer, reading, partsOf, rowCount, answer}
@@ -16,11 +15,7 @@ use Rattle.format.specs.Table.{placed, rows, tableOf, columns, tableReading, ta
 use Rattle.format.specs.declared.Answer.the-variants.{Accepted, Refused}
 use Rattle.format.specs.declared.Row.{Row}
 use Rattle.table.specs.Filling.{filled}
-
--- Numbers below 256 are bytes.
-pub bytes-of : (s : List ℕ) → ((k : ℕ) → getD s k 0 < 256) → Bytes s
-bytes-of [] h = tt
-bytes-of (b ∷ s) h = (h 0, bytes-of s (λ k. h (suc k)))
+pub use Rattle.fields.proofs.Sizes.{bytes-of}
 
 -- An accepted answer comes from a reading that found its sections.
 pub record ReadWhole (s : List ℕ) (n : ℕ) : Type 0 where
