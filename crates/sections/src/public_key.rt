@@ -67,5 +67,10 @@ pub fn public_key_at(s: &[u8], p: usize, seen: bool) -> u32
     let flags_at = modulus_at + y;
     let bits = two(s, p + 8);
     let flags = four(s, flags_at);
-    key_fields(bits, &s[p + 12..modulus_at], &s[modulus_at..flags_at], flags)
+    key_fields(
+        bits,
+        &s[p + 12..modulus_at],
+        &s[modulus_at..flags_at],
+        flags,
+    )
 }
