@@ -70,38 +70,49 @@ abbrev pub mkvpAllowed : Bool → List ℕ → Bool
 mkvpAllowed x f = not x || allZero f
 
 -- the rules on the fields of a kind, in the order in which they are tested; x says that the token is external. f are the
--- chosen fields, named over each kind, from 0; a check has the field's number in the layout (Parts `body`). A rule on 01's
--- x, y, c, m or z is one on the length of the field it counts, of m on that of the mask
+-- chosen fields, named by `let` or over the kind, from 0; a check has the field's number in the layout (Parts `body`). A rule
+-- on 01's x, y, c, m or z is one on the length of the field it counts, of m on that of the mask
 abbrev pub checks : Bool → Kind → Fields → List Check
--- f: 0 modulus bits, 1 exponent, 2 modulus, 3 flags
 checks x publicKey f =
-    check 4 16 (exponentLength (getD f 1 []))  -- x
-    ∷ check 5 16 (modulusBits (number (getD f 0 [])))  -- modulus bits
-    ∷ check 6 16 (fewestBytes (number (getD f 0 [])) (length (getD f 2 [])))  -- y, by the bits
-    ∷ check 8 16 (modulusForm (number (getD f 0 [])) (getD f 2 []))  -- modulus, by the bits
-    ∷ check 7 16 (exponentForm (getD f 1 []) (getD f 2 []))  -- exponent, by the modulus
-    ∷ check 9 11 (keyFlags (getD f 3 []))  -- flags
+    let bits = number (getD f 0 []) in
+    let exponent = getD f 1 [] in
+    let modulus = getD f 2 [] in
+    let flags = getD f 3 [] in
+    check 4 16 (exponentLength exponent)  -- x
+    ∷ check 5 16 (modulusBits bits)  -- modulus bits
+    ∷ check 6 16 (fewestBytes bits (length modulus))  -- y, by the bits
+    ∷ check 8 16 (modulusForm bits modulus)  -- modulus, by the bits
+    ∷ check 7 16 (exponentForm exponent modulus)  -- exponent, by the modulus
+    ∷ check 9 11 (keyFlags flags)  -- flags
     ∷ []
--- f: 0 Rule ID, 1 flags, 2 generated length, 3 key-check, 4 symmetric format, 5 asymmetric format
 checks x rule f =
-    check 3 17 (ruleIdForm (getD f 0 []))  -- Rule ID
-    ∷ check 4 11 (zeroOrOne (getD f 1 []))  -- flags
-    ∷ check 5 11 (generatedLength (getD f 1 []) (getD f 2 []))  -- generated length, by the flags
-    ∷ check 6 11 (zeroToTwo (getD f 3 []))  -- key-check
-    ∷ check 7 11 (symmetricFormat (getD f 1 []) (getD f 4 []))  -- symmetric format, by the flags
-    ∷ check 8 11 (zeroToTwo (getD f 5 []))  -- asymmetric format
+    let ruleId = getD f 0 [] in
+    let flags = getD f 1 [] in
+    let generated = getD f 2 [] in
+    let keyCheck = getD f 3 [] in
+    let symmetric = getD f 4 [] in
+    let asymmetric = getD f 5 [] in
+    check 3 17 (ruleIdForm ruleId)  -- Rule ID
+    ∷ check 4 11 (zeroOrOne flags)  -- flags
+    ∷ check 5 11 (generatedLength flags generated)  -- generated length, by the flags
+    ∷ check 6 11 (zeroToTwo keyCheck)  -- key-check
+    ∷ check 7 11 (symmetricFormat flags symmetric)  -- symmetric format, by the flags
+    ∷ check 8 11 (zeroToTwo asymmetric)  -- asymmetric format
     ∷ []
 -- f: 0 variant
 checks x transportVariant f = []
 -- f: 0 Rule ID
 checks x transportRule f = check 4 17 (ruleIdForm (getD f 0 [])) ∷ []
--- f: 0 minimum, 1 maximum, 2 variant, 3 CV
 checks x exportParameters f =
-    check 5 18 (keyLength (number (getD f 0 [])))  -- minimum
-    ∷ check 6 18 (keyLength (number (getD f 1 [])))  -- maximum
-    ∷ check 6 18 (leb (number (getD f 0 [])) (number (getD f 1 [])))  -- minimum not above maximum
-    ∷ check 7 18 (variantLength (getD f 1 []) (getD f 2 []))  -- x, by the maximum
-    ∷ check 9 18 (controlLength (getD f 3 []))  -- c
+    let minimum = getD f 0 [] in
+    let maximum = getD f 1 [] in
+    let variant = getD f 2 [] in
+    let cv = getD f 3 [] in
+    check 5 18 (keyLength (number minimum))  -- minimum
+    ∷ check 6 18 (keyLength (number maximum))  -- maximum
+    ∷ check 6 18 (leb (number minimum) (number maximum))  -- minimum not above maximum
+    ∷ check 7 18 (variantLength maximum variant)  -- x, by the maximum
+    ∷ check 9 18 (controlLength cv)  -- c
     ∷ []
 -- f: 0 Rule ID
 checks x sourceRule f = check 4 17 (ruleIdForm (getD f 0 [])) ∷ []
@@ -117,12 +128,15 @@ checks x name f = []
 checks x information f = check 4 11 (zeroOrOne (getD f 0 [])) ∷ []
 -- f: 0 encrypted MAC key, 1 MAC, 2 MKVP
 checks x protection f = check 6 21 (mkvpAllowed x (getD f 2 [])) ∷ []  -- MKVP
--- f: 0 flags, 1 activation, 2 expiration; both dates exist and are in order, whatever the flags
+-- both dates exist and are in order, whatever the flags
 checks x dates f =
-    check 4 11 (zeroOrOne (getD f 0 []))  -- flags
-    ∷ check 5 19 (dateExists (getD f 1 []))  -- activation exists
-    ∷ check 6 19 (dateExists (getD f 2 []))  -- expiration exists
-    ∷ check 6 19 (inOrder (getD f 1 []) (getD f 2 []))  -- activation not after expiration
+    let flags = getD f 0 [] in
+    let activation = getD f 1 [] in
+    let expiration = getD f 2 [] in
+    check 4 11 (zeroOrOne flags)  -- flags
+    ∷ check 5 19 (dateExists activation)  -- activation exists
+    ∷ check 6 19 (dateExists expiration)  -- expiration exists
+    ∷ check 6 19 (inOrder activation expiration)  -- activation not after expiration
     ∷ []
 -- f: 0 data
 checks x applicationData f = []
