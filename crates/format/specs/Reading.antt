@@ -10,7 +10,7 @@
 -- fields in `subsectionChecks`.
 --
 -- `check f q b` (Rules): the test b of field f, with refusal q. `fault q p f`: refusal q at place p, field f. No answer
--- shows the field.
+-- shows the field. The names that recur:
 -- full    a token is read, and no draft
 -- x       it is external
 -- at      the place of the part
