@@ -138,7 +138,7 @@ good-complete : (x : Bool) (ss : List Section) → GoodSections true x ss → ki
 good-complete x ss g k =
     let back : sectionsOf (partsOf ss) ≡ ss = group-flat ss (grouped true x ss (g .each)) in
     record {
-      information = flat-has information ss k;
+      section14 = flat-has information ss k;
       within = rw back (all-map (GoodSection true x) (λ (s : Section). hasRequired s ≡ true) (λ s q. q .required) ss (g .each));
     }
 
@@ -175,7 +175,7 @@ read-legal bs ss b e =
     let complete = good-complete (external i) ss (r .good) (r .informed) in
     let protected = has-protection ss
     (all-map (GoodSection true (external i)) (λ (s : Section). hasRequired s ≡ true) (λ s q. q .required) ss (r .good .each)) (r .informed) in
-    let long = required-long ps (choice .fit) (complete .information) protected in
+    let long = required-long ps (choice .fit) (complete .section14) protected in
     record {
       id = i;
       parts = ps;
@@ -192,9 +192,9 @@ written-legal i ps bs w h l c =
     let x : Bool = external i in
     let parts = choice-parts x ps (w .choice .bytes) (w .choice .fit) (l .fields) in
     let flat = choice-flat x ps parts (w .choice .joined) in
-    let informed = has-section information ps refl (c .information) in
+    let informed = has-section information ps refl (c .section14) in
     let protected : has protection ps ≡ true = rw flat at (has-protection (sectionsOf ps) (c .within) informed) in
-    let long = required-long ps (w .choice .fit) (c .information) protected in
+    let long = required-long ps (w .choice .fit) (c .section14) protected in
     let lw = written-length i ps in
     let ls = ap length (w .same) in
     record { id = i; parts = ps; form = w; atLeast = omega arith; atMost = h; lawful = l; complete = c }
@@ -216,4 +216,4 @@ legal-read bs l =
     small
     (lawful-good true i ps c (l .lawful) (l .complete .within))
     (choice-flat (external i) ps parts (c .joined))
-    (has-section information ps refl (l .complete .information))
+    (has-section information ps refl (l .complete .section14))

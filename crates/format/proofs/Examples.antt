@@ -59,5 +59,5 @@ legal-T = record {
     tags = ((tt, tt), tt);
     masks = (refl, tt);
   };
-  complete = record { information = refl; within = (refl, tt) };
+  complete = record { section14 = refl; within = (refl, tt) };
 }

@@ -1,4 +1,5 @@
--- What the theorems of proofs/Main speak of beyond the definitions of the format.
+-- What the theorems of proofs/Main speak of beyond the definitions of the format; each comment names those that use it.
+-- Beside proofs/Main.
 use mathlib.Core.Path.{_≡_}
 use mathlib.Core.Bool.{true, false}
 use mathlib.Core.List.{List, [], _∷_, _++_}
@@ -19,58 +20,63 @@ use Rattle.format.specs.declared.Step.the-variants.{Record, End, Stopped
 
 -- ---- rows
 
--- Row number k of the token is x.
+-- Row number k of the token is x. In `row-bytes`, `view-of-a-field`, `row-gives-its-fields`, `views-tile-the-row`,
+-- `no-such-field`, `no-row-begins-there`.
 abbrev pub IsRow : (bs : List ℕ) → Legal bs → ℕ → Placed → Type 0
 IsRow bs l k x = getElem? (placed 8 0 0 (l .parts)) k ≡ some x
 
 -- The rows from place `at` on lie one after another, each as long as its part without its subsections, and end at e.
+-- In `rows-tile`.
 abbrev pub Tiles : ℕ → List Placed → ℕ → Type 0
 Tiles at [] e = at ≡ e
 Tiles at (x ∷ xs) e = (x .row .offset ≡ at) × Tiles (at + size (x .part)) xs e
 
 -- The subsections of a part, the parts after it given: those in front of the next section, and none for a subsection.
+-- In `row-bytes`.
 abbrev pub subsOf : Part → List Part → List Part
 subsOf p ps = elim (isSubsection (p .kind)) [ true ↦ [] | false ↦ frontSubs ps ]
 
--- how many of the rows are those of rules, sections 12
+-- How many of the rows are those of rules, sections 12. In `count-by-rows`.
 abbrev pub ruleRows : List Row → ℕ
 ruleRows [] = 0
 ruleRows (r ∷ rs) = elim (eqb 0x120000 (r .kind)) as (λ b. ℕ) [ true ↦ 1 | false ↦ 0 ] + ruleRows rs
 
 -- ---- the views of a row
 
--- The slots of a row in the token, its offset the first.
+-- The slots of a row in the token, its offset the first. In `view-of-a-field`, `row-gives-its-fields`.
 abbrev pub slotsOf : List ℕ → Placed → List Slot
 slotsOf bs x = slots [] (layout (x .part .kind)) (drop (x .row .offset) bs) 0
 
--- The views of a row's fields from number j on, n of them, laid end to end.
+-- The views of a row's fields from number j on, n of them, laid end to end. In `views-tile-the-row`.
 abbrev pub viewsFrom : List ℕ → ℕ → ℕ → ℕ → List ℕ
 viewsFrom bs k j zero = []
 viewsFrom bs k j (suc n) = view bs k j ++ viewsFrom bs k (suc j) n
 
 -- ---- the walk
 
--- The records from a place on, following each one's next place, in d turns at most.
+-- The records from a place on, following each one's next place, in d turns at most. In `walk-gives-the-rows`.
 abbrev pub walk : ℕ → List ℕ → ℕ → List Row
 walk zero bs at = []
 walk (suc d) bs at = elim (stepAt bs at) [ Record r next ↦ r ∷ walk d bs next | End ↦ [] | Stopped n p ↦ [] ]
 
--- The place that d steps lead to.
+-- The place that d steps lead to. In `walk-gives-the-rows`.
 abbrev pub walkPlace : ℕ → List ℕ → ℕ → ℕ
 walkPlace zero bs at = at
 walkPlace (suc d) bs at = walkPlace d bs (placeAfter at (stepAt bs at))
 
 -- ---- the writer
 
--- The parts added one after another to a draft; what is found is the draft as it then is.
+-- The parts added one after another to a draft; what is found is the draft as it then is. In
+-- `draft-holds-what-was-added`, `finished-exactly-when-legal`, `legal-token-rebuilt`.
 unfoldable pub additions : List Part → List ℕ → Outcome (List ℕ)
 additions [] d = found d
 additions (p ∷ ps) d = andThen (addition (p .kind) (p .fields) d) (λ bs. additions ps (draftAfter (found bs) d))
 
--- A new length n in the part that begins at place at: in its bytes 2 and 3.
+-- A new length n in the part that begins at place at: in its bytes 2 and 3. In `added-section-changes`,
+-- `added-subsection-changes`.
 abbrev pub restate : ℕ → ℕ → List ℕ → List ℕ
 restate at n bs = set (set bs (at + 2) (n / 256 % 256)) (at + 3) (n % 256)
 
--- The place of the section after these.
+-- The place of the section after these. In `added-subsection-changes`.
 abbrev pub sectionsEnd : List Section → ℕ
 sectionsEnd ss = 8 + length (writeParts (partsOf ss))

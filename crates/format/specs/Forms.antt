@@ -1,4 +1,5 @@
 -- The forms of single fields: characters, Rule IDs, label templates, dates, key lengths, the public key's numbers.
+-- Beside 01: "Rules beyond the layout".
 use mathlib.Core.Bool.{Bool, true, false, not, _&&_, _||_}
 use mathlib.Core.List.{List, [], _∷_}
 use Prim.Native.Nat.{ℕ, suc, _+_, _-_, _/_, _%_, _^_}

@@ -1,5 +1,6 @@
 -- A layout is the list of a part's fields, as data. From it come the written bytes and the test of the fields that a
 -- writer is lent; Slots has what reading takes from it.
+-- Beside 01: "Layouts"; for `fits` refusal 24.
 use mathlib.Core.Bool.{Bool, true, false, _&&_}
 use mathlib.Core.List.{List, [], _∷_, _++_}
 use Prim.Native.Nat.{ℕ, _^_}
@@ -7,14 +8,16 @@ use lib.Dec.{eqb, ltb}
 use lib.ListN.{length, getD, drop, replicate}
 use Rattle.format.specs.Bytes.{bigEndian}
 
--- a field of a layout, with its length in bytes
+-- a field of a layout, with its length in bytes. In section 11 x is `count 2 1`, the bits stand between, and the exponent is
+-- `counted 0`. Writing goes by k, reading by s, `fits` by both. The q in `frame` and `header` (Parts) serves no definition:
+-- Reading states those tests itself
 pub data Item : Type 0 where
-  code : ℕ → ℕ → Item  -- w bytes that hold the number v: an id or a tag
-  zeros : ℕ → ℕ → Item  -- n bytes that are always 0, and the refusal where they are not (used in `body` only; Reading names it for `frame` and `header`)
-  own : ℕ → Item  -- w bytes: 01's `length`, that of the whole part
-  count : ℕ → ℕ → Item  -- w bytes: one of 01's x, y, n, c, m, z: the length of a later chosen field, with k chosen fields between (section 11: x is `count 2 1`, the bits between)
-  fixed : ℕ → Item  -- a chosen field of n bytes
-  counted : ℕ → Item  -- a chosen field whose length the part's count number s states, counts numbered from 0 (section 11: `counted 0` goes by x, `counted 1` by y)
+  code : ℕ → ℕ → Item  -- `code w v`: w bytes that hold the number v, an id or a tag
+  zeros : ℕ → ℕ → Item  -- `zeros n q`: n bytes that are always 0; q is the refusal where they are not
+  own : ℕ → Item  -- `own w`: w bytes, 01's `length`, that of the whole part, in the header that of the token
+  count : ℕ → ℕ → Item  -- `count w k`: w bytes, 01's x, y, n, c, m or z: the length of chosen field k of those after it, from 0
+  fixed : ℕ → Item  -- `fixed n`: a chosen field of n bytes
+  counted : ℕ → Item  -- `counted s`: a chosen field as long as the part's count number s states, from 0
 
 -- the chosen fields of a part, in order: all but ids, tags, lengths, counts and what is always 0
 abbrev pub Fields : Type 0

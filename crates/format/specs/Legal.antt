@@ -1,4 +1,5 @@
 -- The legal tokens: the written forms of the choices that keep every rule.
+-- Beside 01: "Rules beyond the layout".
 use mathlib.Core.Path.{_≡_}
 use mathlib.Core.Bool.{Bool, true, false}
 use mathlib.Core.List.{List, [], _∷_, _++_}
@@ -13,17 +14,18 @@ abbrev pub Pairwise : {A : Type 0} → (A → A → Bool) → List A → Type 0
 Pairwise f [] = Unit {0}
 Pairwise f (x ∷ xs) = All (λ y. f x y ≡ true) xs × Pairwise f xs
 
--- the choice keeps every rule but those of refusal 20
+-- the choice keeps the rules on fields and between parts, but those of refusal 20; the 80 to 3,500 bytes stand in `Legal`
 pub record Lawful (i : ℕ) (ps : List Part) : Type 0 where
-  pub identifier : knownId i ≡ true
+  pub identifier : knownId i ≡ true  -- 1E or 1F
+  -- every check of every part
   pub fields : All (λ (p : Part). All (λ (c : Check). c .holds ≡ true) (checks (external i) (p .kind) (p .fields))) ps
-  pub sections : Pairwise mayBothStand (sectionsOf ps)
-  pub tags : All (λ (s : Section). Pairwise otherKind (s .subs)) (sectionsOf ps)
-  pub masks : All (λ (s : Section). maskCovers (s .subs) ≡ true) (sectionsOf ps)
+  pub sections : Pairwise mayBothStand (sectionsOf ps)  -- only 12 repeats, with other Rule IDs
+  pub tags : All (λ (s : Section). Pairwise otherKind (s .subs)) (sectionsOf ps)  -- each tag at most once in its section
+  pub masks : All (λ (s : Section). maskCovers (s .subs) ≡ true) (sectionsOf ps)  -- 0005 against 0003
 
 -- the parts that are required are there: the rules of refusal 20
 pub record Complete (ps : List Part) : Type 0 where
-  pub information : has information ps ≡ true
+  pub section14 : has information ps ≡ true
   pub within : All (λ (s : Section). hasRequired s ≡ true) (sectionsOf ps)
 
 -- 01's legal token, with the choice whose written form it is

@@ -1,4 +1,5 @@
 -- The lines of the listing, each ended by a newline.
+-- Beside 01: T's listing and the paragraph after it.
 use mathlib.Core.Bool.{true, false}
 use mathlib.Core.List.{List, [], _∷_, _++_, map}
 use Prim.Native.Nat.{ℕ, zero, suc, _+_, _-_, _/_, _%_}

@@ -1,4 +1,5 @@
 -- The twelve kinds of sections and subsections with their layouts, and the written form of an identifier and parts.
+-- Beside 01: "Layouts"; for `joins` refusal 25, for `kindNumber` "Table, views, walk".
 use mathlib.Core.Path.{_≡_}
 use mathlib.Core.Bool.{Bool, true, false, not, _&&_, _||_}
 use mathlib.Core.List.{List, [], _∷_, _++_}
@@ -58,38 +59,40 @@ tag protection = 1
 tag dates = 2
 tag applicationData = 0
 
--- the fields after id, version and length, or tag, length and version, which are fields 0 to 2
+-- the fields after id, version and length, or tag, length and version, which are fields 0 to 2; over each kind its length
+-- in 01 and the fields' numbers. That a count's second number points at the field that goes by it is computed over all kinds
+-- (proofs/Layouts `layouts-sound`): beside 01 compare the number after `counted`
 abbrev pub body : Kind → List Item
--- 11: 3 reserved, 4 x, 5 modulus bits, 6 y, 7 exponent, 8 modulus, 9 flags
+-- 11, length 16+x+y: 3 reserved, 4 x, 5 modulus bits, 6 y, 7 exponent, 8 modulus, 9 flags
 body publicKey = zeros 2 10 ∷ count 2 1 ∷ fixed 2 ∷ count 2 1 ∷ counted 0 ∷ counted 1 ∷ fixed 4 ∷ []
--- 12: 3 Rule ID, 4 flags, 5 generated length, 6 key-check, 7 symmetric format, 8 asymmetric format
+-- 12, length 20 + its subsections: 3 Rule ID, 4 flags, 5 generated length, 6 key-check, 7 symmetric format, 8 asymmetric format
 body rule = fixed 8 ∷ fixed 4 ∷ fixed 1 ∷ fixed 1 ∷ fixed 1 ∷ fixed 1 ∷ []
--- 12/0001: 3 reserved, 4 n, 5 variant
+-- 12/0001, length 8+n: 3 reserved, 4 n, 5 variant
 body transportVariant = zeros 2 10 ∷ count 1 0 ∷ counted 0 ∷ []
--- 12/0002: 3 reserved, 4 Rule ID
+-- 12/0002, length 14: 3 reserved, 4 Rule ID
 body transportRule = zeros 1 10 ∷ fixed 8 ∷ []
--- 12/0003: 3 reserved, 4 flags, 5 minimum, 6 maximum, 7 x, 8 variant, 9 c, 10 CV
+-- 12/0003, length 12+x+c: 3 reserved, 4 flags, 5 minimum, 6 maximum, 7 x, 8 variant, 9 c, 10 CV
 body exportParameters =
     zeros 2 10 ∷ zeros 1 11 ∷ fixed 1 ∷ fixed 1 ∷ count 1 0 ∷ counted 0 ∷ count 1 0 ∷ counted 1 ∷ []
--- 12/0004: 3 reserved, 4 Rule ID
+-- 12/0004, length 14: 3 reserved, 4 Rule ID
 body sourceRule = zeros 1 10 ∷ fixed 8 ∷ []
--- 12/0005: 3 reserved, 4 flags, 5 m, 6 mask, 7 template, 8 z, 9 label template
+-- 12/0005, length 10+2m+z: 3 reserved, 4 flags, 5 m, 6 mask, 7 template, 8 z, 9 label template
 body tokenParameters = zeros 2 10 ∷ zeros 1 11 ∷ count 1 0 ∷ counted 0 ∷ counted 0 ∷ count 1 0 ∷ counted 1 ∷ []
--- 13: 3 name
+-- 13, length 68: 3 name
 body name = fixed 64 ∷ []
--- 14: 3 reserved, 4 flags
+-- 14, length 10 + its subsections: 3 reserved, 4 flags
 body information = zeros 2 10 ∷ fixed 4 ∷ []
--- 14/0001: 3 reserved, 4 encrypted MAC key, 5 MAC, 6 MKVP
+-- 14/0001, length 62: 3 reserved, 4 encrypted MAC key, 5 MAC, 6 MKVP
 body protection = zeros 1 10 ∷ fixed 32 ∷ fixed 8 ∷ fixed 16 ∷ []
--- 14/0002: 3 reserved, 4 flags, 5 activation, 6 expiration
+-- 14/0002, length 16: 3 reserved, 4 flags, 5 activation, 6 expiration
 body dates = zeros 1 10 ∷ fixed 2 ∷ fixed 4 ∷ fixed 4 ∷ []
--- 15: 3 x, 4 data
+-- 15, length 6+x: 3 x, 4 data
 body applicationData = count 2 0 ∷ counted 0 ∷ []
 
 abbrev pub isSubsection : Kind → Bool
 isSubsection k = elim (tag k) [ zero ↦ false | suc n ↦ true ]
 
--- how a section and a subsection begin
+-- how a section (false) begins, with its id i, and a subsection (true), with its tag g
 abbrev pub frame : Bool → ℕ → ℕ → List Item
 frame false i g = code 1 i ∷ zeros 1 8 ∷ own 2 ∷ []
 frame true i g = code 2 g ∷ own 2 ∷ zeros 1 8 ∷ []
@@ -102,11 +105,11 @@ layout k = frame (isSubsection k) (sectionId k) (tag k) ++ body k
 abbrev pub header : List Item
 header = fixed 1 ∷ zeros 1 3 ∷ own 2 ∷ zeros 4 5 ∷ []
 
--- external
+-- the header's id is 1E: the token is external
 abbrev pub external : ℕ → Bool
 external i = eqb i 0x1E
 
--- external or internal
+-- the header's id is 1E or 1F: the token is external or internal
 abbrev pub knownId : ℕ → Bool
 knownId i = external i || eqb i 0x1F
 
@@ -122,7 +125,8 @@ pub record Part : Type 0 where
   pub kind : Kind
   pub fields : Fields
 
--- the bytes that the part itself takes, without its subsections
+-- the bytes that the part itself takes, without its subsections (the 0 stands for its length field, which is as long
+-- whatever it holds)
 abbrev pub size : Part → ℕ
 size p = length (write 0 (layout (p .kind)) (p .fields))
 
@@ -144,7 +148,8 @@ writeParts (p ∷ ps) = write (span p ps) (layout (p .kind)) (p .fields) ++ writ
 abbrev pub written : ℕ → List Part → List ℕ
 written i ps = write (8 + length (writeParts ps)) header ((i ∷ []) ∷ []) ++ writeParts ps
 
--- what refusal 25 tests: each subsection follows a section of its own id, o being the id of the section before, or 0
+-- what refusal 25 tests: each subsection follows a section of its own id, o being the id of the section before (after a
+-- subsection the same), 0 where there is none
 abbrev pub joins : ℕ → List Part → Bool
 joins o [] = true
 joins o (p ∷ ps) =

@@ -1,9 +1,23 @@
 -- The answer for any bytes: the first fault in 01's order, or the parts that were read. One definition serves a token
--- and a draft, which is read under all rules but those of refusal 20.
+-- and a draft, which is read under all rules but those of refusal 20. It may be read from the end: `answer`, `reading`,
+-- `sections`, `section`. That it accepts the legal tokens and no other is proved (Main `accepted-exactly-when-legal`):
+-- beside 01 compare the numbers, their order and their places.
+-- Beside 01: numbers 1 to 21, "Order", the first sentences of "Writer".
 --
--- In what follows `full` says that a token is read, and no draft; x that it is external; `at` is the place of the part, r the
--- bytes from there to the end of the token or draft, past the part too; n the bytes that are left of the section; `before`
--- what was read before; d the turns, which are always enough: the clause without a turn is never reached (Main `every-refusal`).
+-- 01's order, and where it stands. Header 1 to 5: `headerChecks`. Section: 6 (four bytes), 7 in `section`; 8, 6 (length),
+-- 9 (kind), 15, fields, 9 (Rule ID) in `sectionChecks`; subsections in `sectionRest`; 18, 20 in `afterSubsections`; the
+-- missing section 14 in `sections`. Subsection: 12 (four bytes), 13 in `subsection`; 12 (length), 14, 8, 12 (inner),
+-- fields in `subsectionChecks`.
+--
+-- `check f q b` (Rules): the test b of field f, with refusal q. `fault q p f`: refusal q at place p, field f. No answer
+-- shows the field. The names that recur:
+-- full    a token is read, and no draft
+-- x       it is external
+-- at      the place of the part
+-- r       the bytes from there to the end of the token or draft, past the part too
+-- n       the bytes that are left of the section
+-- before  what was read before
+-- d       the turns, always enough: the clause without a turn is never reached (Main `every-refusal`)
 use mathlib.Core.Bool.{Bool, true, false, not, _&&_, _||_}
 use mathlib.Core.List.{List, [], _∷_, _++_}
 use mathlib.Core.Option.{Option, none, some}
@@ -79,7 +93,7 @@ stated r = number (bytesAt r 2 2)
 abbrev pub bodySlots : Kind → List ℕ → List Slot
 bodySlots k r = slots [] (body k) r (frameLength k)
 
--- the length that the part's own counts make
+-- the length that the part's own fields make, subsections not counted: 20 in section 12, 10 in section 14
 abbrev pub madeLength : Kind → List ℕ → ℕ
 madeLength k r = endOf (frameLength k) (bodySlots k r)
 
@@ -87,7 +101,7 @@ madeLength k r = endOf (frameLength k) (bodySlots k r)
 abbrev pub partIn : Kind → List ℕ → Part
 partIn k r = record { kind = k; fields = fieldsIn r (bodySlots k r) }
 
--- the tests of the fields that are always 0, the first of them field number j
+-- the tests of those slots whose bytes are always 0; the first slot is that of field number j
 abbrev pub zeroChecks : ℕ → List ℕ → List Slot → List Check
 zeroChecks j r [] = []
 zeroChecks j r (s ∷ ss) =
@@ -101,8 +115,8 @@ zeroChecks j r (s ∷ ss) =
       | counted c ↦ rest
     ]
 
--- the tests of the part's fields in rising offset, x for an external token: in every layout what is always 0 stands
--- before the chosen fields
+-- the tests of the part's fields, x for an external token: first what is always 0, which every layout has before the chosen
+-- fields, then the rules; so in rising offset, but for the modulus before the exponent
 abbrev pub fieldChecks : Bool → Kind → List ℕ → List Check
 fieldChecks x k r = zeroChecks 3 r (bodySlots k r) ++ checks x k (partIn k r .fields)
 
@@ -178,12 +192,13 @@ afterSubsections full at first s =
     need (maskCovers (s .subs)) (fault 18 (placeOf tokenParameters first (s .subs)) 5)
     (need (not full || hasRequired s) (fault 20 at 0) (found s))
 
--- the subsections of the section of kind k at the front of r, and its end
+-- the subsections of the section of kind k at the front of r, and its end: they begin after its own fields, m bytes; in
+-- sections 11, 13 and 15 that is the end (refusal 15), and there are none
 unfoldable pub sectionRest : Bool → Bool → Kind → ℕ → List ℕ → Outcome Section
 sectionRest full x k at r =
-    let n = madeLength k r in
-    andThen (subsections (suc (stated r)) x k [] (at + n) (stated r - n) (drop n r))
-    (λ ps. afterSubsections full at (at + n) (record { head = partIn k r; subs = ps }))
+    let m = madeLength k r in
+    andThen (subsections (suc (stated r)) x k [] (at + m) (stated r - m) (drop m r))
+    (λ ps. afterSubsections full at (at + m) (record { head = partIn k r; subs = ps }))
 
 -- the section at the front of r; `before` are the token's earlier sections
 unfoldable pub section : Bool → Bool → List Section → ℕ → List ℕ → Outcome Section

@@ -1,5 +1,7 @@
--- The rules beyond the layout, each a named condition on the parts. A rule on a part's own fields is a `Check`, with
--- the field that is tested and the refusal; the rules between parts follow.
+-- The rules beyond the layout, each a named condition on the parts; and the values that 01 allows in its "Layouts":
+-- `keyFlags`, `zeroOrOne`, `zeroToTwo`, `mkvpAllowed`. A rule on a part's own fields is a `Check`, with the field that is
+-- tested and the refusal; the rules between parts follow.
+-- Beside 01: "Rules beyond the layout", and for flags, key-check, asymmetric format and MKVP "Layouts".
 use mathlib.Core.Bool.{Bool, true, false, not, _&&_, _||_}
 use mathlib.Core.List.{List, [], _∷_}
 use Prim.Native.Nat.{ℕ}
@@ -11,7 +13,8 @@ use Rattle.format.specs.Parts.{Kind, publicKey, rule, transportVariant, 
 use Rattle.format.specs.Parts.{name, information, protection, dates, applicationData, isSubsection, sameKind, Part}
 use Rattle.format.specs.Forms.{between, ruleIdForm, labelForm, dateExists, inOrder, keyLength, fewestBytes, modulusForm, exponentForm}
 
--- a rule on a field: the field's number in its layout, the refusal, and whether the rule is kept
+-- a rule on a field: the number of the field tested, the refusal, and whether the rule is kept: `check 6 16 b` is field 6,
+-- refusal 16. No answer shows the field's number: beside 01 compare the refusal, the condition and the order
 pub record Check : Type 0 where
   pub field : ℕ
   pub refusal : ℕ
@@ -63,62 +66,77 @@ abbrev pub labelLength : List ℕ → Bool
 labelLength f = eqb (length f) 0 || eqb (length f) 64
 
 -- the MKVP of an external token is all zero
-abbrev pub patternAllowed : Bool → List ℕ → Bool
-patternAllowed x f = not x || allZero f
+abbrev pub mkvpAllowed : Bool → List ℕ → Bool
+mkvpAllowed x f = not x || allZero f
 
--- the rules on the fields of a kind, in the order in which they are tested; x says that the token is external. A check
--- names its field by its number in the layout (Parts `body`); f are the chosen fields, named and numbered over each kind
+-- the rules on the fields of a kind, in the order in which they are tested; x says that the token is external. f are the
+-- chosen fields, named by `let` or over the kind, from 0; a check has the field's number in the layout (Parts `body`). A rule
+-- on 01's x, y, c, m or z is one on the length of the field it counts, of m on that of the mask
 abbrev pub checks : Bool → Kind → Fields → List Check
--- f: 0 modulus bits, 1 exponent, 2 modulus, 3 flags
 checks x publicKey f =
-    check 4 16 (exponentLength (getD f 1 []))
-    ∷ check 5 16 (modulusBits (number (getD f 0 [])))
-    ∷ check 6 16 (fewestBytes (number (getD f 0 [])) (length (getD f 2 [])))
-    ∷ check 8 16 (modulusForm (number (getD f 0 [])) (getD f 2 []))
-    ∷ check 7 16 (exponentForm (getD f 1 []) (getD f 2 []))
-    ∷ check 9 11 (keyFlags (getD f 3 []))
+    let bits = number (getD f 0 []) in
+    let exponent = getD f 1 [] in
+    let modulus = getD f 2 [] in
+    let flags = getD f 3 [] in
+    check 4 16 (exponentLength exponent)  -- x
+    ∷ check 5 16 (modulusBits bits)  -- modulus bits
+    ∷ check 6 16 (fewestBytes bits (length modulus))  -- y, by the bits
+    ∷ check 8 16 (modulusForm bits modulus)  -- modulus, by the bits
+    ∷ check 7 16 (exponentForm exponent modulus)  -- exponent, by the modulus
+    ∷ check 9 11 (keyFlags flags)  -- flags
     ∷ []
--- f: 0 Rule ID, 1 flags, 2 generated length, 3 key-check, 4 symmetric format, 5 asymmetric format
 checks x rule f =
-    check 3 17 (ruleIdForm (getD f 0 []))
-    ∷ check 4 11 (zeroOrOne (getD f 1 []))
-    ∷ check 5 11 (generatedLength (getD f 1 []) (getD f 2 []))
-    ∷ check 6 11 (zeroToTwo (getD f 3 []))
-    ∷ check 7 11 (symmetricFormat (getD f 1 []) (getD f 4 []))
-    ∷ check 8 11 (zeroToTwo (getD f 5 []))
+    let ruleId = getD f 0 [] in
+    let flags = getD f 1 [] in
+    let generated = getD f 2 [] in
+    let keyCheck = getD f 3 [] in
+    let symmetric = getD f 4 [] in
+    let asymmetric = getD f 5 [] in
+    check 3 17 (ruleIdForm ruleId)  -- Rule ID
+    ∷ check 4 11 (zeroOrOne flags)  -- flags
+    ∷ check 5 11 (generatedLength flags generated)  -- generated length, by the flags
+    ∷ check 6 11 (zeroToTwo keyCheck)  -- key-check
+    ∷ check 7 11 (symmetricFormat flags symmetric)  -- symmetric format, by the flags
+    ∷ check 8 11 (zeroToTwo asymmetric)  -- asymmetric format
     ∷ []
 -- f: 0 variant
 checks x transportVariant f = []
 -- f: 0 Rule ID
 checks x transportRule f = check 4 17 (ruleIdForm (getD f 0 [])) ∷ []
--- f: 0 minimum, 1 maximum, 2 variant, 3 CV
 checks x exportParameters f =
-    check 5 18 (keyLength (number (getD f 0 [])))
-    ∷ check 6 18 (keyLength (number (getD f 1 [])))
-    ∷ check 6 18 (leb (number (getD f 0 [])) (number (getD f 1 [])))
-    ∷ check 7 18 (variantLength (getD f 1 []) (getD f 2 []))
-    ∷ check 9 18 (controlLength (getD f 3 []))
+    let minimum = getD f 0 [] in
+    let maximum = getD f 1 [] in
+    let variant = getD f 2 [] in
+    let cv = getD f 3 [] in
+    check 5 18 (keyLength (number minimum))  -- minimum
+    ∷ check 6 18 (keyLength (number maximum))  -- maximum
+    ∷ check 6 18 (leb (number minimum) (number maximum))  -- minimum not above maximum
+    ∷ check 7 18 (variantLength maximum variant)  -- x, by the maximum
+    ∷ check 9 18 (controlLength cv)  -- c
     ∷ []
 -- f: 0 Rule ID
 checks x sourceRule f = check 4 17 (ruleIdForm (getD f 0 [])) ∷ []
 -- f: 0 mask, 1 template, 2 label template
 checks x tokenParameters f =
-    check 5 18 (controlLength (getD f 0 []))
-    ∷ check 8 18 (labelLength (getD f 2 []))
-    ∷ check 9 17 (eqb (length (getD f 2 [])) 0 || labelForm (getD f 2 []))
+    check 5 18 (controlLength (getD f 0 []))  -- m
+    ∷ check 8 18 (labelLength (getD f 2 []))  -- z
+    ∷ check 9 17 (eqb (length (getD f 2 [])) 0 || labelForm (getD f 2 []))  -- label template, where there is one
     ∷ []
 -- f: 0 name
 checks x name f = []
 -- f: 0 flags
 checks x information f = check 4 11 (zeroOrOne (getD f 0 [])) ∷ []
 -- f: 0 encrypted MAC key, 1 MAC, 2 MKVP
-checks x protection f = check 6 21 (patternAllowed x (getD f 2 [])) ∷ []
--- f: 0 flags, 1 activation, 2 expiration; both dates exist and are in order, whatever the flags
+checks x protection f = check 6 21 (mkvpAllowed x (getD f 2 [])) ∷ []  -- MKVP
+-- both dates exist and are in order, whatever the flags
 checks x dates f =
-    check 4 11 (zeroOrOne (getD f 0 []))
-    ∷ check 5 19 (dateExists (getD f 1 []))
-    ∷ check 6 19 (dateExists (getD f 2 []))
-    ∷ check 6 19 (inOrder (getD f 1 []) (getD f 2 []))
+    let flags = getD f 0 [] in
+    let activation = getD f 1 [] in
+    let expiration = getD f 2 [] in
+    check 4 11 (zeroOrOne flags)  -- flags
+    ∷ check 5 19 (dateExists activation)  -- activation exists
+    ∷ check 6 19 (dateExists expiration)  -- expiration exists
+    ∷ check 6 19 (inOrder activation expiration)  -- activation not after expiration
     ∷ []
 -- f: 0 data
 checks x applicationData f = []
@@ -135,7 +153,8 @@ abbrev pub frontSubs : List Part → List Part
 frontSubs [] = []
 frontSubs (p ∷ ps) = elim (isSubsection (p .kind)) [ true ↦ p ∷ frontSubs ps | false ↦ [] ]
 
--- the sections of a list of parts, each with the subsections that follow it
+-- the sections of a list of parts, each with the subsections that follow it; by `joins` (Parts) none stands before the
+-- first section
 abbrev pub sectionsOf : List Part → List Section
 sectionsOf [] = []
 sectionsOf (p ∷ ps) =
@@ -172,7 +191,8 @@ mayBothStand s t =
 abbrev pub otherKind : Part → Part → Bool
 otherKind p q = not (sameKind (p .kind) (q .kind))
 
--- if m is not 0 and the rule has a 0003, m is at least its minimum
+-- if m is not 0 and the rule has a 0003, m is at least its minimum; p is a 0005, its chosen field 0 the mask, of m bytes; q
+-- a 0003, its chosen field 0 the minimum; as tags do not repeat, there is at most one of each
 abbrev pub maskCovers : List Part → Bool
 maskCovers subs =
     each
@@ -181,7 +201,7 @@ maskCovers subs =
     || each (λ (q : Part). leb (number (getD (q .fields) 0 [])) (length (getD (p .fields) 0 []))) (ofKind exportParameters subs))
     (ofKind tokenParameters subs)
 
--- an export rule has a 0003, and section 14 its 0001
+-- an export rule has a 0003, and section 14 its 0001; chosen field 1 of a rule is its flags
 abbrev pub hasRequired : Section → Bool
 hasRequired s =
     (not (sameKind rule (s .head .kind) && eqb (number (getD (s .head .fields) 1 [])) 1) || has exportParameters (s .subs))

@@ -1,5 +1,6 @@
 -- Where the fields of a part lie in bytes that are read, from its layout: the least length, each field's offset and length,
 -- and the chosen fields that lie there.
+-- Beside 01: the lengths in "Layouts", "Least lengths are ..".
 use mathlib.Core.List.{List, [], _∷_, _++_}
 use Prim.Native.Nat.{ℕ, _+_}
 use lib.ListN.{getD}
@@ -22,7 +23,7 @@ pub record Slot : Type 0 where
   pub offset : ℕ
   pub width : ℕ
 
--- the slots of the fields in bytes that begin with the part, from offset o on
+-- the slots of the fields in bytes that begin with the part, from offset o on; ns are the counts read so far
 abbrev pub slots : List ℕ → List Item → List ℕ → ℕ → List Slot
 slots ns [] bs o = []
 slots ns (code w v ∷ l) bs o = record { item = code w v; offset = o; width = w } ∷ slots ns l bs (o + w)

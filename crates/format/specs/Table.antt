@@ -1,4 +1,5 @@
 -- The table of an accepted token: a row for each section and subsection, once, in order.
+-- Beside 01: "Table, views, walk" and 23.
 use mathlib.Core.Bool.{Bool, true, false}
 use mathlib.Core.List.{List, [], _∷_, _++_, map}
 use Prim.Native.Nat.{ℕ, suc, _+_, _*_}
@@ -26,7 +27,7 @@ placed at n o (p ∷ ps) =
     }
     ∷ placed (at + size p) (suc n) owner ps
 
--- the rows of a token's parts
+-- the rows of a token's parts: from byte 8 on, with no row and no section before
 abbrev pub rows : List Part → List Row
 rows ps = map (λ x. x .row) (placed 8 0 0 ps)
 

@@ -1,4 +1,5 @@
 -- Views of single fields, and the walk over the rows. Here an illegal token refuses first, with its own number.
+-- Beside 01: "Table, views, walk" and 22.
 use mathlib.Core.Bool.{true, false}
 use mathlib.Core.List.{List, [], _∷_}
 use mathlib.Core.Option.{none, some}
@@ -20,7 +21,7 @@ use Rattle.format.specs.declared.Step.the-variants.{Record, End, Stopped
 
 -- ---- views
 
--- where a field of a part lies that begins at this offset of the token
+-- where field number `field` of the part p lies, p beginning at place `at` of the token; 22 where p has no such field
 abbrev pub slotOf : List ℕ → ℕ → Part → ℕ → Where
 slotOf bs at p field =
     elim (getElem? (slots [] (layout (p .kind)) (drop at bs) 0) field) [

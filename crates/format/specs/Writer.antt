@@ -1,4 +1,5 @@
 -- The writer's calls on a lent draft: each comes to a refusal, or to the bytes that the draft then begins with.
+-- Beside 01: "Writer", 23 to 25.
 use mathlib.Core.Bool.{true, false, _&&_}
 use mathlib.Core.List.{List, [], _∷_, _++_}
 use Prim.Native.Nat.{ℕ, _+_}
@@ -45,15 +46,19 @@ finish d = asAnswer (λ ss. stated d) (andThen (reading false d) (λ ss. reading
 
 -- ---- the values of each addition as the fields of its kind
 
+-- The calls of these five kinds take numbers, each in a type as wide as its field, so that `bigEndian` cuts nothing off.
+-- Those of the other seven take bytes alone, in 01's order: 12/0001 variant; 12/0002, 12/0004 Rule ID; 12/0005 mask,
+-- template, label template; 13 name; 14/0001 encrypted MAC key, MAC, MKVP; 15 data
+
 abbrev pub publicKeyFields : ℕ → List ℕ → List ℕ → ℕ → Fields
 publicKeyFields bits exponent modulus flags = bigEndian 2 bits ∷ exponent ∷ modulus ∷ bigEndian 4 flags ∷ []
 
 abbrev pub ruleFields : List ℕ → ℕ → ℕ → ℕ → ℕ → ℕ → Fields
-ruleFields ruleId flags generated check symmetric asymmetric =
+ruleFields ruleId flags generated keyCheck symmetric asymmetric =
     ruleId
     ∷ bigEndian 4 flags
     ∷ bigEndian 1 generated
-    ∷ bigEndian 1 check
+    ∷ bigEndian 1 keyCheck
     ∷ bigEndian 1 symmetric
     ∷ bigEndian 1 asymmetric
     ∷ []

@@ -13,7 +13,7 @@ use Rattle.format.specs.Bytes.{number, bytesAt, allZero}
 use Rattle.format.proofs.Finding.{and-split}
 use Rattle.fields.proofs.Lists.{zero-number}
 use Rattle.fields.proofs.Numbers.{number-none, number-more}
-use Rattle.format.specs.Rules.{Check, patternAllowed}
+use Rattle.format.specs.Rules.{Check, mkvpAllowed}
 use Rattle.format.specs.Reading.{stated}
 use Rattle.format.specs.declared.Answer.{Answer}
 use Rattle.format.specs.declared.Answer.the-variants.{Refused}
@@ -163,8 +163,8 @@ pub second-not : {a b : Bool} → a ≡ true → b ≡ false → (a && b) ≡ fa
 second-not e f = rw e f
 
 -- the pattern of an internal token is free, that of an external one all 0
-pub pattern-free : (x : Bool) (f : List ℕ) → x ≡ false → patternAllowed x f ≡ true
+pub pattern-free : (x : Bool) (f : List ℕ) → x ≡ false → mkvpAllowed x f ≡ true
 pattern-free x f e = rw e
 
-pub pattern-zero : (x : Bool) (f : List ℕ) {b : Bool} → x ≡ true → allZero f ≡ b → patternAllowed x f ≡ b
+pub pattern-zero : (x : Bool) (f : List ℕ) {b : Bool} → x ≡ true → allZero f ≡ b → mkvpAllowed x f ≡ b
 pattern-zero x f e h = rw e h
