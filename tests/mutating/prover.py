@@ -6,7 +6,11 @@ import signal
 import subprocess
 import time
 
+from answering import cases as second_reader
+from answering import crate as answers
+
 LATE = 124
+ANSWERS = {"some answers": 5, "answers": 1}  # stages that ask the second reader, each with one of so many cases
 LEFT_OUT = (".git", "__pycache__", "must-fail")
 ERROR = re.compile(r"^(\S*?/)?(crates/\S+?):(\d+):\d+: error(?:\[[\w-]+\])?: (.*(?:\n  .*)?)$", re.M)
 NOTE = re.compile(r"^note: (\S*?/)?(crates/\S+?):(\d+):\d+: (it is not proved .*)$", re.M)  # of a proof that rattle makes
@@ -59,7 +63,11 @@ class Cache:
 class Copy:
     def __init__(self, root, folder, log):
         self.root, self.folder, self.log = root, os.path.join(folder, "copy"), log
+        self.format = os.path.join(self.folder, "crates", "format")
         self.all = os.path.join(folder, "all")  # an empty crate over all libraries
+        # What the second reader says of the definitions, for each stage that asks; the last folder is for cases alone.
+        self.asked = {stage: os.path.join(folder, stage.replace(" ", "-")) for stage in list(ANSWERS) + ["each answer"]}
+        self.laws = {}
         self.crates, self.caches = crates_of(root), {}
         if os.path.isdir(self.folder):  # a folder that was kept: its target stands, the rest is copied anew
             for name in os.listdir(self.folder):
@@ -85,6 +93,9 @@ class Copy:
 
     def check_words(self, crate):
         """The command that checks a crate, the folder to run it in, and the crate's cache."""
+        if crate in ANSWERS:
+            where = self.asked[crate]
+            return answers.check_words(where), where, os.path.join(where, "target", "inc", "answers")
         where = self.all if crate == "every" else self.folder
         words = self.every() if crate == "every" else ["rt", "dev", crate]
         return words, where, os.path.join(where, "target", "inc", crate)
@@ -93,6 +104,8 @@ class Copy:
         """Fills the cache of a crate, which must be proved as it stands."""
         if crate in self.caches:
             return
+        if crate in ANSWERS:
+            self.ask_second_reader(crate)
         words, where, cache = self.check_words(crate)
         status, text = self.run(words, where)
         if status != 0:
@@ -105,6 +118,23 @@ class Copy:
         status, text = self.run(words, where)
         self.caches[crate].restore()
         return status, text
+
+    def ask_second_reader(self, stage):
+        """Writes the crate of what the second reader says, with one of so many cases."""
+        folder = self.asked[stage]
+        os.makedirs(folder, exist_ok=True)
+        self.bases, cases = second_reader.read_cases(second_reader.program(self.folder, folder))
+        self.laws[stage] = answers.write_crate(folder, self.format, self.bases, cases[::ANSWERS[stage]])
+
+    def case_that_fails(self, stage, text):
+        """The first case on which the definitions and the second reader differ, by what the check of all printed; or None."""
+        laws = answers.failed_laws(text, self.laws[stage])
+        if not laws:
+            return None
+        group, folder = self.laws[stage][laws[0][0]], self.asked["each answer"]
+        alone = answers.write_crate(folder, self.format, self.bases, group, 1)
+        failed = answers.failed_laws(self.run(answers.check_words(folder), folder)[1], alone)
+        return alone[failed[0][0]][0] if failed else None
 
     def every(self):
         """The words that check all libraries in one run, passed as source to an empty crate."""
@@ -165,6 +195,16 @@ def verdict_of_code(status, text):
         return Verdict("stillborn", error=shown_error(errors))
     function = re.search(r"^fn (\S+): (?:not proved$|no proof)", text, re.M)
     return refusal(function.group(1) if function else errors[0][0], errors)
+
+
+def verdict_of_answers(copy, stage, status, text):
+    """What the second reader's cases say of a definition mutant."""
+    if status == 0:
+        return Verdict("SURVIVED")
+    case = copy.case_that_fails(stage, text) if status == 1 else None
+    if case is None:
+        return Verdict("could not tell", error=shown_error(errors_in(text)))
+    return Verdict("refused by the second reader", case.name, case.short())
 
 
 def verdict_of_definition(status, text, path, stage):

@@ -1,0 +1,352 @@
+//! Table, views, walk, listing, single fields, numbers given back, the paper's
+//! examples.
+
+use crate::cases::{hex, part_words, row_word, Cases};
+use crate::forms::{date_exists, is_label_template, is_rule_id};
+use crate::kinds;
+use crate::reader::{read, Answer, Row};
+use crate::samples::{
+    in_line, information, protection, rule, smallest_token, smallest_with, subsection, token_of,
+};
+use crate::tokens::{bases, every, small_drafts, spaced};
+use crate::views::{fields_of, taken_apart, view};
+
+pub fn ask(cases: &mut Cases) {
+    for (_, token) in bases() {
+        taken(cases, &token);
+    }
+    for token in [smallest_token(), every()] {
+        tables(cases, &token);
+        steps(cases, &token);
+        rows_of_views(cases, &token);
+        views_laid_together(cases, &token);
+    }
+    for draft in small_drafts() {
+        views(cases, &draft);
+    }
+    let mut refused = smallest_token();
+    refused[79] = 1;
+    cases.table(&refused, 9);
+    cases.view(&refused, 0, 0);
+    cases.view(&refused, 9, 9);
+    cases.step(&refused, 8);
+    cases.step(&refused, 80);
+    lines(cases);
+    dates(cases);
+    dates_in_tokens(cases);
+    characters(cases);
+    labels(cases);
+    given(cases);
+    examples(cases);
+}
+
+/// The token's parts, from which it is written, and its rows.
+fn taken(cases: &mut Cases, token: &[u8]) {
+    let (id, parts) = taken_apart(token).expect("it is legal");
+    let rows = read(token).expect("it is legal");
+    let parts: Vec<String> = parts.iter().map(part_words).collect();
+    let rows: Vec<String> = rows.iter().map(row_word).collect();
+    let question = format!("parts {id} {} {}", parts.len(), parts.join(" "));
+    cases.ask(&question, &format!("{} {}", hex(token), rows.join(" ")));
+}
+
+fn tables(cases: &mut Cases, token: &[u8]) {
+    let enough = 4 * read(token).expect("it is legal").len();
+    for room in [0, enough - 1, enough, enough + 3] {
+        cases.table(token, room);
+    }
+}
+
+/// Each field of the last row, and the field after the last, where the draft
+/// has all that it needs or needs only the smallest token's section.
+fn views(cases: &mut Cases, draft: &[u8]) {
+    let own = &draft[8..];
+    let token = [&[smallest_token(), own.to_vec()].concat(), draft]
+        .map(|token| in_line(token.to_vec()))
+        .into_iter()
+        .find(|token| read(token).is_ok());
+    let Some(token) = token else {
+        return;
+    };
+    let last = read(&token).expect("it is legal").len() as u32 - 1;
+    let fields = (0..)
+        .take_while(|field| view(&token, last, *field).is_ok())
+        .count();
+    for field in 0..=fields {
+        cases.view(&token, last, field as u32);
+    }
+}
+
+/// All fields of a row, which together are its bytes without its subsections;
+/// of a long token the last row's.
+fn views_laid_together(cases: &mut Cases, token: &[u8]) {
+    let rows = read(token).expect("it is legal");
+    let first = if token.len() > 100 { rows.len() - 1 } else { 0 };
+    for (index, row) in rows.iter().enumerate().skip(first) {
+        let from = row.offset as usize;
+        let to = rows
+            .get(index + 1)
+            .map_or(token.len(), |next| next.offset as usize);
+        let fields = fields_of(token, row).len();
+        let question = format!("views {} {index} {fields}", hex(token));
+        cases.ask(&question, &hex(&token[from..to]));
+    }
+}
+
+/// The first field of each row and one that no row has, the rows after the last.
+fn rows_of_views(cases: &mut Cases, token: &[u8]) {
+    let rows = read(token).expect("it is legal").len() as u32;
+    for row in 0..rows + 2 {
+        cases.view(token, row, 0);
+        cases.view(token, row, 11);
+    }
+}
+
+/// Each row's place and those beside it, the header's and the end's.
+fn steps(cases: &mut Cases, token: &[u8]) {
+    let rows = read(token).expect("it is legal");
+    for row in &rows {
+        cases.step(token, row.offset as usize);
+    }
+    for place in [0, 7, 9, token.len() - 1, token.len(), token.len() + 1] {
+        cases.step(token, place);
+    }
+}
+
+fn lines(cases: &mut Cases) {
+    for (id, length, rows) in [
+        (0x1E, 80, 2),
+        (0x1F, 80, 2),
+        (0x1E, 3500, 173),
+        (0x1F, 99, 9),
+        (0x1E, 100, 10),
+        (0x1F, 101, 11),
+    ] {
+        cases.first_line(id, length, Answer::new(0, rows));
+    }
+    for (number, place) in [(1, 0), (9, 9), (10, 10), (19, 99), (20, 100), (21, 3438)] {
+        cases.first_line(0x1E, 80, Answer::new(number, place));
+    }
+    let row = |kind, offset, length, owner| Row {
+        kind,
+        offset,
+        length,
+        owner,
+    };
+    for (place, kind) in kinds::ALL.into_iter().enumerate() {
+        cases.row_line(
+            place,
+            &row(kind, 8 + 3 * place as u32, 62, place as u32 / 2),
+        );
+    }
+    for (place, kind) in [
+        (0, 0x01_0000),
+        (9, 0x09_0009),
+        (10, 0x0A_000A),
+        (99, 0x0F_000F),
+        (100, 0x10_0010),
+        (172, 0xFF_FFFF),
+        (300, 0xA9_00FF),
+    ] {
+        cases.row_line(place, &row(kind, 3480, 20, 171));
+        cases.row_line(place, &row(kind, 9, 10, 0));
+    }
+}
+
+fn date(cases: &mut Cases, year: u16, month: u8, day: u8) {
+    let [high, low] = year.to_be_bytes();
+    let bytes = [high, low, month, day];
+    let says = u8::from(date_exists(&bytes));
+    cases.ask(&format!("date {}", hex(&bytes)), &says.to_string());
+}
+
+/// Each month's last days and those after, leap years and those beside.
+fn dates(cases: &mut Cases) {
+    for year in [
+        0, 1, 4, 100, 200, 300, 400, 1900, 2000, 2023, 2024, 2400, 9996, 9999,
+    ] {
+        for day in [28, 29, 30] {
+            date(cases, year, 2, day);
+        }
+    }
+    for month in 0..=14 {
+        for day in [0, 1, 30, 31, 32] {
+            date(cases, 2025, month, day);
+        }
+    }
+    for (year, month, day) in [
+        (9999, 12, 31),
+        (9999, 12, 32),
+        (10000, 1, 1),
+        (10000, 2, 29),
+        (0x8000, 1, 1),
+        (2024, 255, 1),
+        (2024, 1, 255),
+    ] {
+        date(cases, year, month, day);
+    }
+}
+
+/// Activation and expiration that differ in one byte, in both orders.
+fn dates_in_tokens(cases: &mut Cases) {
+    let day = [7, 0xD0, 2, 27];
+    for other in [
+        [8, 0xD0, 2, 27],
+        [7, 0xD1, 2, 27],
+        [7, 0xD0, 3, 27],
+        [7, 0xD0, 2, 28],
+        [8, 0xCF, 1, 1],
+        [7, 0xD1, 1, 1],
+        [7, 0xD0, 3, 1],
+        [7, 0xD0, 2, 30],
+    ] {
+        for (activation, expiration) in [(day, other), (other, day), (other, other)] {
+            let dates = subsection(2, &[&[0, 0, 0], &activation, &expiration]);
+            cases.read(&token_of(&[information(&[protection(), dates])]));
+        }
+    }
+}
+
+/// The characters on each side of those that a Rule ID or a label allows.
+const SIDES: &[u8] = b"\x00\x1F !\"#$%)*+,-./0189:;?@ABYZ[\\]^_`abyz{|\x7F\x80\xC1\xFF";
+
+fn rule_id(cases: &mut Cases, bytes: &[u8]) {
+    let says = u8::from(is_rule_id(bytes));
+    cases.ask(&format!("ruleid {}", hex(bytes)), &says.to_string());
+}
+
+fn label(cases: &mut Cases, text: &[u8]) {
+    let bytes = spaced(text, 64);
+    let says = u8::from(is_label_template(&bytes));
+    cases.ask(&format!("label {}", hex(&bytes)), &says.to_string());
+}
+
+fn characters(cases: &mut Cases) {
+    for sign in SIDES {
+        rule_id(cases, &spaced(&[*sign], 8));
+        label(cases, &[*sign]);
+        label(cases, &[b'A', *sign]);
+        label(cases, &[b'A', *sign, b'B']);
+        for at in [1, 3, 7] {
+            let mut bytes = *b"ABCDEFGH";
+            bytes[at] = *sign;
+            rule_id(cases, &bytes);
+        }
+        rule_id(cases, &[b'A', b' ', *sign, b' ', b' ', b' ', b' ', b' ']);
+    }
+    for text in [
+        &b""[..],
+        b"A",
+        b"AB",
+        b"ABCDEFGH",
+        b"A B",
+        b" A",
+        b"A      B",
+    ] {
+        rule_id(cases, &spaced(text, 8));
+    }
+}
+
+/// Stars and digits at the ends and within, 64 characters without a space.
+fn labels(cases: &mut Cases) {
+    for text in [
+        &b""[..],
+        b" A",
+        b"*",
+        b"**",
+        b"*A",
+        b"A*",
+        b"*A*",
+        b"A*B",
+        b"AB*C",
+        b"*1",
+        b"1*",
+        b"#*",
+        b"*#",
+        b"A**",
+        b"**A",
+        b"A *",
+        b"A* B",
+        b"A B*",
+        b"* *",
+        b"A1",
+        b"A1*",
+    ] {
+        label(cases, text);
+    }
+    for at in [0, 1, 62, 63] {
+        for sign in [b'*', b'1', b' ', b'#', b'-'] {
+            let mut bytes = [b'x'; 64];
+            bytes[at] = sign;
+            label(cases, &bytes);
+        }
+    }
+}
+
+/// The numbers that go to the caller: an answer's, a field's, a step's. The
+/// last question is a step, asked by its row's number too.
+fn given(cases: &mut Cases) {
+    cases.ask("given answer 0 7", "0 7");
+    cases.ask("given answer 20 8", "20 8");
+    cases.ask("given where at 18 2", "18 2");
+    cases.ask("given where missing 22 5", "0 0");
+    let row = Row {
+        kind: 0x14_0001,
+        offset: 18,
+        length: 62,
+        owner: 3,
+    };
+    let numbers = format!("0 0 0 {} 18 62 3 80", row.kind);
+    cases.ask(&format!("given step row {} 80", row_word(&row)), &numbers);
+    cases.ask("given step end", "0 22 0 0 0 0 0 0");
+    cases.ask("given step stopped 21 18", "21 21 18 0 0 0 0 0");
+}
+
+/// The starred examples of document 01, in its order.
+fn examples(cases: &mut Cases) {
+    let token = smallest_token();
+    let last = crate::boundaries::with(&token, 79, 1);
+    let with_rule = |id: &[u8; 8]| smallest_with(&[rule(id, &[])]);
+    let tokens = [
+        token.clone(),
+        vec![],
+        vec![0x1E, 0, 0, 8, 0, 0, 0, 0],
+        last.clone(),
+        crate::boundaries::with(&last, 0, 0x1F),
+        [&token[..], &[0]].concat(),
+        [&token[..], &[255]].concat(),
+    ];
+    let days = [
+        [7, 0xD0, 2, 0x1D],
+        [7, 0x6C, 2, 0x1D],
+        [0x27, 0x0F, 0x0C, 0x1F],
+    ];
+    for (turn, bytes) in [
+        (0, &tokens[0]),
+        (1, &tokens[1]),
+        (2, &tokens[2]),
+        (3, &tokens[3]),
+        (4, &tokens[4]),
+        (5, &tokens[5]),
+        (5, &tokens[6]),
+    ] {
+        example(cases, turn, bytes);
+    }
+    for (turn, day) in days.iter().enumerate() {
+        let says = u8::from(date_exists(day));
+        cases.ask(
+            &format!("example {} date {}", turn + 6, hex(day)),
+            &says.to_string(),
+        );
+    }
+    example(cases, 9, &with_rule(b"        "));
+    example(cases, 10, &with_rule(b"A       "));
+}
+
+fn example(cases: &mut Cases, turn: usize, token: &[u8]) {
+    let Answer { number, second } = crate::reader::read_answer(token);
+    cases.ask(
+        &format!("example {turn} read {}", hex(token)),
+        &format!("{number} {second}"),
+    );
+}
