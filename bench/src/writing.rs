@@ -58,6 +58,13 @@ pub fn measure_all() {
     println!("the same for a subsection whose tag stands before in the last rule: refused by 14");
     measure_refused_subsection("library", &last_rule, &LIBRARY);
     measure_refused_subsection("Rust", &last_rule, &RUST);
+    println!("an addition to T / a reading of T and one copy of the part");
+    measure_against_copy("3,414 bytes of data, library", &data, &LIBRARY);
+    measure_against_copy("3,414 bytes of data, Rust", &data, &RUST);
+    println!("the same, with a reading of T with the key, since the key is judged too");
+    let key = with_key(&[1, 0, 1]);
+    measure_key_against_copy("a key of 4,096 bits, library", &key, &LIBRARY);
+    measure_key_against_copy("a key of 4,096 bits, Rust", &key, &RUST);
 }
 
 /// Builds a token from its parts; gives what the finish answers.
@@ -151,6 +158,39 @@ fn measure_refused_subsection(name: &str, token: &[u8], by: &Writer) {
     addition.length = (by.add)(&mut addition.draft, &addition.part).second as usize;
     assert_eq!(addition.again(by), Answer::new(14, addition.length));
     measure_beside(name, addition, by);
+}
+
+/// The addition of a token's last part to a reading of the draft before it and
+/// a copy of the part's bytes.
+fn measure_against_copy(name: &str, token: &[u8], by: &Writer) {
+    let addition = Addition::new(token);
+    let draft = addition.draft[..addition.length].to_vec();
+    measure_beside_copy(name, addition, token, &draft, by);
+}
+
+/// The same to a reading of the whole token and that copy.
+fn measure_key_against_copy(name: &str, token: &[u8], by: &Writer) {
+    measure_beside_copy(name, Addition::new(token), token, token, by);
+}
+
+fn measure_beside_copy(
+    name: &str,
+    mut addition: Addition,
+    token: &[u8],
+    read: &[u8],
+    by: &Writer,
+) {
+    let part = &token[addition.length..];
+    let mut room = vec![7; part.len()];
+    let pairs = interleaved(
+        || addition.again(by),
+        || {
+            room.copy_from_slice(black_box(part));
+            black_box(&mut room);
+            (by.read)(black_box(read))
+        },
+    );
+    print(name, pairs);
 }
 
 fn measure_beside(name: &str, mut addition: Addition, by: &Writer) {

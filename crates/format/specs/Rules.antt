@@ -79,11 +79,11 @@ checks x publicKey f =
     let modulus = getD f 2 [] in
     let flags = getD f 3 [] in
     check 4 16 (exponentLength exponent)  -- x
-    ∷ check 5 16 (modulusBits bits)  -- modulus bits
-    ∷ check 6 16 (fewestBytes bits (length modulus))  -- y, by the bits
-    ∷ check 8 16 (modulusForm bits modulus)  -- modulus, by the bits
-    ∷ check 7 16 (exponentForm exponent modulus)  -- exponent, by the modulus
-    ∷ check 9 11 (keyFlags flags)  -- flags
+    ∷ check 5 16 (modulusBits bits)
+    ∷ check 6 16 (fewestBytes bits (length modulus))  -- y
+    ∷ check 8 16 (modulusForm bits modulus)
+    ∷ check 7 16 (exponentForm exponent modulus)
+    ∷ check 9 11 (keyFlags flags)
     ∷ []
 checks x rule f =
     let ruleId = getD f 0 [] in
@@ -92,12 +92,12 @@ checks x rule f =
     let keyCheck = getD f 3 [] in
     let symmetric = getD f 4 [] in
     let asymmetric = getD f 5 [] in
-    check 3 17 (ruleIdForm ruleId)  -- Rule ID
-    ∷ check 4 11 (zeroOrOne flags)  -- flags
-    ∷ check 5 11 (generatedLength flags generated)  -- generated length, by the flags
-    ∷ check 6 11 (zeroToTwo keyCheck)  -- key-check
-    ∷ check 7 11 (symmetricFormat flags symmetric)  -- symmetric format, by the flags
-    ∷ check 8 11 (zeroToTwo asymmetric)  -- asymmetric format
+    check 3 17 (ruleIdForm ruleId)
+    ∷ check 4 11 (zeroOrOne flags)
+    ∷ check 5 11 (generatedLength flags generated)
+    ∷ check 6 11 (zeroToTwo keyCheck)
+    ∷ check 7 11 (symmetricFormat flags symmetric)
+    ∷ check 8 11 (zeroToTwo asymmetric)
     ∷ []
 -- f: 0 variant
 checks x transportVariant f = []
@@ -108,35 +108,36 @@ checks x exportParameters f =
     let maximum = getD f 1 [] in
     let variant = getD f 2 [] in
     let cv = getD f 3 [] in
-    check 5 18 (keyLength (number minimum))  -- minimum
-    ∷ check 6 18 (keyLength (number maximum))  -- maximum
-    ∷ check 6 18 (leb (number minimum) (number maximum))  -- minimum not above maximum
-    ∷ check 7 18 (variantLength maximum variant)  -- x, by the maximum
+    check 5 18 (keyLength (number minimum))
+    ∷ check 6 18 (keyLength (number maximum))
+    ∷ check 6 18 (leb (number minimum) (number maximum))
+    ∷ check 7 18 (variantLength maximum variant)  -- x
     ∷ check 9 18 (controlLength cv)  -- c
     ∷ []
 -- f: 0 Rule ID
 checks x sourceRule f = check 4 17 (ruleIdForm (getD f 0 [])) ∷ []
--- f: 0 mask, 1 template, 2 label template
 checks x tokenParameters f =
-    check 5 18 (controlLength (getD f 0 []))  -- m
-    ∷ check 8 18 (labelLength (getD f 2 []))  -- z
-    ∷ check 9 17 (eqb (length (getD f 2 [])) 0 || labelForm (getD f 2 []))  -- label template, where there is one
+    let mask = getD f 0 [] in
+    let label = getD f 2 [] in
+    check 5 18 (controlLength mask)  -- m
+    ∷ check 8 18 (labelLength label)  -- z
+    ∷ check 9 17 (eqb (length label) 0 || labelForm label)
     ∷ []
 -- f: 0 name
 checks x name f = []
 -- f: 0 flags
 checks x information f = check 4 11 (zeroOrOne (getD f 0 [])) ∷ []
 -- f: 0 encrypted MAC key, 1 MAC, 2 MKVP
-checks x protection f = check 6 21 (mkvpAllowed x (getD f 2 [])) ∷ []  -- MKVP
+checks x protection f = check 6 21 (mkvpAllowed x (getD f 2 [])) ∷ []
 -- both dates exist and are in order, whatever the flags
 checks x dates f =
     let flags = getD f 0 [] in
     let activation = getD f 1 [] in
     let expiration = getD f 2 [] in
-    check 4 11 (zeroOrOne flags)  -- flags
-    ∷ check 5 19 (dateExists activation)  -- activation exists
-    ∷ check 6 19 (dateExists expiration)  -- expiration exists
-    ∷ check 6 19 (inOrder activation expiration)  -- activation not after expiration
+    check 4 11 (zeroOrOne flags)
+    ∷ check 5 19 (dateExists activation)
+    ∷ check 6 19 (dateExists expiration)
+    ∷ check 6 19 (inOrder activation expiration)
     ∷ []
 -- f: 0 data
 checks x applicationData f = []
