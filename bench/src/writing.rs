@@ -173,13 +173,7 @@ fn measure_key_against_copy(name: &str, token: &[u8], by: &Writer) {
     measure_beside_copy(name, Addition::new(token), token, token, by);
 }
 
-fn measure_beside_copy(
-    name: &str,
-    mut addition: Addition,
-    token: &[u8],
-    read: &[u8],
-    by: &Writer,
-) {
+fn measure_beside_copy(name: &str, mut addition: Addition, token: &[u8], read: &[u8], by: &Writer) {
     let part = &token[addition.length..];
     let mut room = vec![7; part.len()];
     let pairs = interleaved(
