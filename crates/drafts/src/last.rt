@@ -1,9 +1,7 @@
 // Internal: the parts of a draft, passed by the lengths that they state, which costs little against a reading.
-ghost use mathlib.Core.Path.{_≡_};
 ghost use mathlib.Core.Bool.{false};
 ghost use Prim.Native.Nat.{_≤_};
-ghost use lib.ListN.{length, take};
-ghost use Rattle.format.specs.Reading.{stated};
+ghost use lib.ListN.{length};
 ghost use Rattle.drafts.specs.Tiling.{Twenties, LastOf, LastSection};
 use contents::header::header;
 use fields::two;

@@ -1,5 +1,5 @@
 -- The answer of an addition that is judged before it is written, and the draft that it leaves. Assumes nothing.
-use mathlib.Core.Path.{_≡_, refl, sym, ap, ap₂, _∙_}
+use mathlib.Core.Path.{_≡_, sym, ap, _∙_}
 use mathlib.Core.Bool.{true, false, not, _&&_}
 use mathlib.Core.List.{List, [], _++_}
 use Prim.Native.Nat.{ℕ, _+_, _≤_}
@@ -10,9 +10,9 @@ use lib.Seq.{sets}
 use borrow.Author.Tests.{leb-true}
 use Rattle.format.specs.Bytes.{Bytes}
 use Rattle.format.specs.Layout.{Fields, fits, write}
-use Rattle.format.specs.Parts.{Kind, sectionId, layout, size, external}
+use Rattle.format.specs.Parts.{Kind, sectionId, layout, external}
 use Rattle.format.specs.Rules.{checks}
-use Rattle.format.specs.Reading.{Outcome, found, fault, andThen, asAnswer, idOf, stated, reading, tested}
+use Rattle.format.specs.Reading.{found, andThen, asAnswer, idOf, stated, reading, tested}
 use Rattle.format.specs.Writer.{writeAnswer, draftAfter, addition}
 use Rattle.format.specs.declared.Answer.the-variants.{Accepted, Refused}
 use Rattle.format.proofs.Finding.{and-split}
@@ -20,8 +20,8 @@ use Rattle.format.proofs.Tests.{Hold, needed, followed, found-inj, then-found, 
 use Rattle.format.proofs.Changes.{restate}
 use Rattle.sections.specs.Refusals.{firstRefusal}
 use Rattle.sections.proofs.Subs.{stops}
-use Rattle.drafts.specs.Adding.{Standing, Reads, grown}
-use Rattle.drafts.proofs.Outcomes.{RefusedBy, told-refused, told-found, refused-written, found-written}
+use Rattle.drafts.specs.Adding.{Reads, grown}
+use Rattle.drafts.proofs.Outcomes.{told-refused, told-found, refused-written, found-written}
 use Rattle.drafts.proofs.Longer.{grown-long}
 use Rattle.drafts.proofs.InPlace.{put-in}
 use Rattle.drafts.proofs.Calls.{header-stands}

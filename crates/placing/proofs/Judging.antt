@@ -3,7 +3,7 @@
 use mathlib.Core.Path.{_≡_, refl, sym, ap, ap₂, _∙_, subst}
 use mathlib.Core.Bool.{Bool, true, false, not, _&&_, _||_}
 use mathlib.Core.List.{List, [], _∷_, _++_, append-nil}
-use mathlib.Core.Option.{Option, some}
+use mathlib.Core.Option.{some}
 use Prim.Native.Nat.{ℕ, suc, _+_, _-_, _^_, _≤_, _<_}
 use native.Mathlib.Omega.{arith}
 use lib.Dec.{eqb, leb}
@@ -15,12 +15,12 @@ use Rattle.format.specs.Slots.{least}
 use Rattle.format.specs.Parts.{Kind, rule, sectionId, tag, sameKind, isSubsection, layout, Part, size, external}
 use Rattle.format.specs.Rules.{Check, check, checks, Section}
 use Rattle.format.specs.Reading.{Fault, fault, Outcome, refused, found, need, andThen, tested, idOf, stated, sectionKind, partIn, bodySlots, madeLength}
-use Rattle.format.specs.Reading.{zeroChecks, fieldChecks, holdsSubs, kindBefore, ruleBefore, sectionChecks, afterSubsections, sectionRest, section, reading, subsections}
+use Rattle.format.specs.Reading.{zeroChecks, fieldChecks, holdsSubs, kindBefore, ruleBefore, afterSubsections, sectionRest, section, reading, subsections}
 use Rattle.format.specs.Writer.{addition}
 use Rattle.format.proofs.Finding.{and-join, and-split, or-right, sameKind-eq, sameKind-refl, sectionKind-told}
 use Rattle.format.proofs.Fitting.{part-fits}
 use Rattle.format.proofs.Unique.{size-any, size-pos}
-use Rattle.format.proofs.Tests.{Hold, need-passed, need-failed, then-found, tests-lead}
+use Rattle.format.proofs.Tests.{need-passed, then-found, tests-lead}
 use Rattle.format.proofs.Turns.{then-same, subs-from, subs-none}
 use Rattle.format.proofs.PartForm.{Framed, part-read}
 use Rattle.format.proofs.Sound.{GoodSection}

@@ -1,16 +1,16 @@
 -- The reading of a draft with one section more, where the draft reads. Assumes nothing.
 use mathlib.Core.Path.{_≡_, refl, sym, ap, ap₂, _∙_, subst}
-use mathlib.Core.Bool.{Bool, true, false}
+use mathlib.Core.Bool.{Bool, false}
 use mathlib.Core.List.{List, [], _∷_, _++_, append-nil}
 use Prim.Native.Nat.{ℕ, suc, _+_, _≤_}
 use native.Mathlib.Omega.{arith}
 use lib.ListN.{length, take, drop, length-append, length-drop, take-append-drop}
 use lib.Seq.{length-take-le}
 use borrow.Author.Tests.{le-leb}
-use Rattle.format.specs.Bytes.{Bytes, number, bytesAt, allZero}
+use Rattle.format.specs.Bytes.{Bytes, bytesAt, allZero}
 use Rattle.format.specs.Parts.{external, knownId}
 use Rattle.format.specs.Rules.{Section}
-use Rattle.format.specs.Reading.{Outcome, found, need, andThen, idOf, stated, section, headerChecks, reading}
+use Rattle.format.specs.Reading.{found, need, andThen, idOf, stated, section, headerChecks, reading}
 use Rattle.format.proofs.Finding.{and-join}
 use Rattle.format.proofs.Numbers.{bytes-take, bytes-drop}
 use Rattle.format.proofs.Tests.{Hold, tests-passed, tests-lead, found-inj}

@@ -9,7 +9,7 @@ use Rattle.format.specs.Reading.{idOf, stated}
 use Rattle.drafts.specs.Tiling.{TiledTo, here, next, Tiled}
 use Rattle.drafts.proofs.Tiling.{tiled-on, tiled-first}
 use Rattle.placing.specs.Placing as Placing
-use Rattle.placing.specs.Placing.{PassedTo, StandsIn}
+use Rattle.placing.specs.Placing.{PassedTo}
 
 -- Steps past such parts are steps.
 pub passed-tiled : {i : ℕ} {z r : List ℕ} → PassedTo i z r → TiledTo z r

@@ -1,5 +1,4 @@
 -- The loop over the subsections of section 14: what is read from here is what is read from the first one on.
-use Rattle.format.specs.Reading.{asAnswer}
 use mathlib.Core.List.{[]}
 use Rattle.sections.proofs.InformationLaws.{kind-one, kind-two, turn-on, information-rest, ends-there, ends-missing}
 use Rattle.sections.proofs.Subs.{refused-told, refused-same, refused-then, loop-stops, loop-room, loop-on}
