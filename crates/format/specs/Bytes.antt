@@ -3,18 +3,20 @@
 -- 01 is the description of the build and of the format that the project was given; "Beside 01" in a file names what to hold
 -- beside it.
 --
--- How to read these files. `f : A → B → C` is a function of an A and a B, `f x y` its value, `λ x. e` a function without a
--- name; of several clauses the one whose patterns fit is meant. `{A : Type 0} →` says: for any type A. A `Type 0` is a type
--- of data or a statement: `x ≡ y` x and y are equal, `P × Q` both hold, `(x : A) × B` there is an x with B, `(x : A) → B` B
--- for every x (where B is data, a function of x), `Unit {0}` holds always. A `data` lists the forms of its values. A `record`
--- has all its lines: as a statement it asks for all of them, and where some are data (`Legal`) it says that there are such.
--- Tests: `eqb a b` is a = b, `leb a b` a ≤ b, `ltb a b` a < b; `t ≡ true` states a test. Lists: `[]` is empty, `x ∷ xs` is x
--- and then xs, `++` joins, `take n l` and `drop n l` are the first n and the rest, `replicate n x` is n times x, `set l k x`
--- is l with x for its element k, `getD l k d` is element k, from 0, or d where there is none, `getElem? l k` is `some` of it
--- or `none`. `suc n` is n + 1, a difference stops at 0, `/` drops the remainder, which is `%`. `elim e [ p ↦ a | .. ]` is a
--- choice by cases, `as (λ x. T)` only gives its type; `let x = e in` gives e a name. `r .f` is a record's field, `p .0` and
--- `p .1` are a pair's parts. `pub`, `abbrev` and `unfoldable` do not change what a definition says; `use` lines say where
--- names come from, and may be passed over.
+-- How to read these files; what stands after `use`, and `pub`, `abbrev`, `unfoldable`, may be passed over (`as` in a `use` line
+-- gives another name).
+-- f : A → B → C    a function of an A and a B; `f x y` is its value, by the clause whose patterns fit; `λ x. e` has no name
+-- {A : Type 0} →   for any type A; a `Type 0` is a type of data or a statement
+-- statements       x ≡ y, x < y, x ≤ y; P × Q both; (x : A) × B there is an x with B; (x : A) → B for every x (where B is
+--                  data, a function of x); Unit {0} always
+-- tests            eqb =, ltb <, leb ≤; &&, ||, not; `t ≡ true` states a test
+-- data, record     `data` lists the forms of its values. A `record` has all its lines: as a statement it asks for all of
+--                  them, and where some are data (`Legal`) says that there are such; `record { f = a; .. }` is a value, `r .f`
+--                  its field; `(a, b)` is a pair, `p .0` and `p .1` its parts
+-- lists            [] empty; x ∷ xs; ++ joins; length; take n l, drop n l the first n, the rest; replicate n x; map f l;
+--                  set l k x: l with x for element k; getD l k d: element k, from 0, or d; getElem? l k: `some` of it or `none`
+-- numbers          suc n is n + 1; a difference stops at 0; / drops the remainder, which is %; ^ is power
+-- elim e [ p ↦ a | .. ]   a choice by cases, `as (λ x. T)` only gives its type; `let x = e in` gives e a name
 use mathlib.Core.Bool.{Bool, true, false, _&&_}
 use mathlib.Core.List.{List, [], _∷_, _++_}
 use Prim.Native.Nat.{ℕ, zero, suc, _+_, _*_, _/_, _%_, _<_}

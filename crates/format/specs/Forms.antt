@@ -59,7 +59,7 @@ inLabel b = letter b || digit b || labelSign b || star b
 abbrev pub padded : (ℕ → Bool) → List ℕ → Bool
 padded f bs = leb 1 (leading f bs) && every space (drop (leading f bs) bs)
 
--- Rule ID: one to eight of A-Z, a-z, 0-9, hyphen, underscore, then spaces to the end
+-- Rule ID: one or more of A-Z, a-z, 0-9, hyphen, underscore, then spaces to the end; its field has eight bytes
 unfoldable pub ruleIdForm : List ℕ → Bool
 ruleIdForm bs = padded inRuleId bs
 

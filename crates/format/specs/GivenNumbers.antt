@@ -1,5 +1,6 @@
--- 01's "Numbers given back": for every case of an answer, a field's place and a step of the walk its number and the numbers
--- beside it. Where there is no row, a row's numbers are 0: so the end of the walk has kind 0, and no row has.
+-- For every case of an answer, a field's place and a step of the walk its number in 01 and the numbers beside it.
+-- Beside 01: "Where an answer is an enum, a definition gives this paper's number and values for every one of its cases".
+-- Where there is no row, a row's numbers are 0: so the end of the walk has kind 0, and no row has.
 use Prim.Native.Nat.{ℕ}
 use Rattle.format.specs.declared.Answer.{Answer}
 use Rattle.format.specs.declared.Answer.the-variants.{Accepted, Refused}
@@ -37,7 +38,8 @@ stepNumber (Record r n) = 0
 stepNumber End = 0
 stepNumber (Stopped n p) = n
 
--- the same where a row is asked for by its number: after the last row there is none
+-- the same where a row is asked for by its number, a call that 01 does not name (docs/DECISIONS.md, `tb_row`): after the last
+-- row 22
 unfoldable pub rowAnswer : Step → ℕ
 rowAnswer (Record r n) = 0
 rowAnswer End = 22

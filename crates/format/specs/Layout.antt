@@ -8,22 +8,23 @@ use lib.Dec.{eqb, ltb}
 use lib.ListN.{length, getD, drop, replicate}
 use Rattle.format.specs.Bytes.{bigEndian}
 
--- a field of a layout, with its length in bytes. In section 11 x is `count 2 1`, the bits stand between, and the exponent is
--- `counted 0`. Writing goes by k, reading by s, `fits` by both. The q in `frame` and `header` (Parts) serves no definition:
--- Reading states those tests itself
+-- a field of a layout, with its length in bytes
 pub data Item : Type 0 where
   code : ℕ → ℕ → Item  -- `code w v`: w bytes that hold the number v, an id or a tag
-  zeros : ℕ → ℕ → Item  -- `zeros n q`: n bytes that are always 0; q is the refusal where they are not
+  zeros : ℕ → ℕ → Item  -- `zeros n q`: n bytes that are always 0; q is the refusal where they are not (used in Parts `body` alone)
   own : ℕ → Item  -- `own w`: w bytes, 01's `length`, that of the whole part, in the header that of the token
   count : ℕ → ℕ → Item  -- `count w k`: w bytes, 01's x, y, n, c, m or z: the length of chosen field k of those after it, from 0
   fixed : ℕ → Item  -- `fixed n`: a chosen field of n bytes
   counted : ℕ → Item  -- `counted s`: a chosen field as long as the part's count number s states, from 0
 
+-- So in section 11 x is `count 2 1`: of the chosen fields after it the bits are 0, the exponent 1; and the exponent is
+-- `counted 0`, by count number 0. Writing goes by k, reading by s, `fits` by both.
+
 -- the chosen fields of a part, in order: all but ids, tags, lengths, counts and what is always 0
 abbrev pub Fields : Type 0
 Fields = List (List ℕ)
 
--- a part of t bytes, written field after field
+-- a part written field after field; t is what its length field states, for a section with its subsections
 abbrev pub write : ℕ → List Item → Fields → List ℕ
 write t [] fs = []
 write t (code w v ∷ l) fs = bigEndian w v ++ write t l fs

@@ -11,7 +11,7 @@ use Rattle.format.specs.declared.Answer.{Answer}
 use Rattle.format.specs.declared.Answer.the-variants.{Accepted, Refused}
 use Rattle.format.specs.declared.Row.{Row}
 
--- the bytes of a text
+-- the bytes of a text: `empty` has none, `c followed-by s` is the character c and then s, `code c` here its number
 abbrev pub text : String → List ℕ
 text empty = []
 text (c followed-by s) = code c ∷ text s

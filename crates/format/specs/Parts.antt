@@ -29,35 +29,26 @@ kinds =
     ∷ applicationData
     ∷ []
 
--- the id of the section that the kind is, or that the subsection stands in
-abbrev pub sectionId : Kind → ℕ
-sectionId publicKey = 0x11
-sectionId rule = 0x12
-sectionId transportVariant = 0x12
-sectionId transportRule = 0x12
-sectionId exportParameters = 0x12
-sectionId sourceRule = 0x12
-sectionId tokenParameters = 0x12
-sectionId name = 0x13
-sectionId information = 0x14
-sectionId protection = 0x14
-sectionId dates = 0x14
-sectionId applicationData = 0x15
+-- the id of the section that the kind is, or that the subsection stands in; and its tag, 0 for a section
+abbrev pub ids : Kind → ℕ × ℕ
+ids publicKey = (0x11, 0)
+ids rule = (0x12, 0)
+ids transportVariant = (0x12, 1)
+ids transportRule = (0x12, 2)
+ids exportParameters = (0x12, 3)
+ids sourceRule = (0x12, 4)
+ids tokenParameters = (0x12, 5)
+ids name = (0x13, 0)
+ids information = (0x14, 0)
+ids protection = (0x14, 1)
+ids dates = (0x14, 2)
+ids applicationData = (0x15, 0)
 
--- the tag of a subsection, 0 for a section
+abbrev pub sectionId : Kind → ℕ
+sectionId k = ids k .0
+
 abbrev pub tag : Kind → ℕ
-tag publicKey = 0
-tag rule = 0
-tag transportVariant = 1
-tag transportRule = 2
-tag exportParameters = 3
-tag sourceRule = 4
-tag tokenParameters = 5
-tag name = 0
-tag information = 0
-tag protection = 1
-tag dates = 2
-tag applicationData = 0
+tag k = ids k .1
 
 -- the fields after id, version and length, or tag, length and version, which are fields 0 to 2; over each kind its length
 -- in 01 and the fields' numbers. That a count's second number points at the field that goes by it is computed over all kinds

@@ -1,4 +1,4 @@
--- The answer for any bytes: the first fault in 01's order, or the parts that were read. One definition serves a token
+-- The answer for any bytes: the first fault in 01's order, or the sections that were read, with their rows counted. One definition serves a token
 -- and a draft, which is read under all rules but those of refusal 20. It may be read from the end: `answer`, `reading`,
 -- `sections`, `section`. That it accepts the legal tokens and no other is proved (Main `accepted-exactly-when-legal`):
 -- beside 01 compare the numbers, their order and their places.
@@ -115,8 +115,9 @@ zeroChecks j r (s ∷ ss) =
       | counted c ↦ rest
     ]
 
--- the tests of the part's fields, x for an external token: first what is always 0, which every layout has before the chosen
--- fields, then the rules; so in rising offset, but for the modulus before the exponent
+-- the tests of the part's fields, x for an external token: first what is always 0, then the rules. That the former stands
+-- before the chosen fields, and that the fields tested rise but for the modulus before the exponent, is computed over all kinds
+-- (proofs/Layouts `layouts-sound`)
 abbrev pub fieldChecks : Bool → Kind → List ℕ → List Check
 fieldChecks x k r = zeroChecks 3 r (bodySlots k r) ++ checks x k (partIn k r .fields)
 
@@ -220,7 +221,8 @@ sections (suc d) full x before at (b ∷ bs) =
 
 -- ---- the token and the draft
 
--- refusal 4: a token's header states the length of its buffer, a draft's at least 8 bytes and no more than there are
+-- refusal 4: a token has at most 3,500 bytes and its header states how many; a draft's states 8 to 3,500, and no more than there
+-- are
 abbrev pub lengthAllowed : Bool → List ℕ → Bool
 lengthAllowed true bs = leb (length bs) 3500 && eqb (stated bs) (length bs)
 lengthAllowed false bs = leb 8 (stated bs) && leb (stated bs) 3500 && leb (stated bs) (length bs)

@@ -23,7 +23,7 @@ pub record Check : Type 0 where
 abbrev pub check : ℕ → ℕ → Bool → Check
 check f n b = record { field = f; refusal = n; holds = b }
 
--- ---- the conditions on single fields, in 01's order
+-- ---- the conditions on the fields of one part, in the order of 01's "Layouts"
 
 -- x is 1 to 512
 abbrev pub exponentLength : List ℕ → Bool
@@ -37,7 +37,7 @@ modulusBits bits = between 512 4096 bits
 abbrev pub keyFlags : List ℕ → Bool
 keyFlags f = eqb (number f) 0 || eqb (number f) 0x80000000 || eqb (number f) 0xC0000000
 
--- 0 or 1: generate or export, inactive or active, dates unchecked or checked
+-- 0 or 1: the flags of section 12 (generate, export), of section 14 and of 14/0002
 abbrev pub zeroOrOne : List ℕ → Bool
 zeroOrOne f = leb (number f) 1
 
@@ -198,12 +198,13 @@ abbrev pub maskCovers : List Part → Bool
 maskCovers subs =
     each
     (λ (p : Part).
-    eqb (length (getD (p .fields) 0 [])) 0
-    || each (λ (q : Part). leb (number (getD (q .fields) 0 [])) (length (getD (p .fields) 0 []))) (ofKind exportParameters subs))
+    let m = length (getD (p .fields) 0 []) in
+    eqb m 0 || each (λ (q : Part). leb (number (getD (q .fields) 0 [])) m) (ofKind exportParameters subs))
     (ofKind tokenParameters subs)
 
 -- an export rule has a 0003, and section 14 its 0001; chosen field 1 of a rule is its flags
 abbrev pub hasRequired : Section → Bool
 hasRequired s =
-    (not (sameKind rule (s .head .kind) && eqb (number (getD (s .head .fields) 1 [])) 1) || has exportParameters (s .subs))
+    let exports = sameKind rule (s .head .kind) && eqb (number (getD (s .head .fields) 1 [])) 1 in
+    (not exports || has exportParameters (s .subs))
     && (not (sameKind information (s .head .kind)) || has protection (s .subs))

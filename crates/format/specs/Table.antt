@@ -48,7 +48,7 @@ tableOf (r ∷ rs) = rowNumbers r ++ tableOf rs
 abbrev pub roomFor : List Part → List ℕ → Bool
 roomFor ps t = leb (columns * length ps) (length t)
 
--- reading into a lent table: the reading's own refusal, else 23 with the rows needed
+-- reading into a lent table: the reading's own refusal; 23 with the rows needed where they have no room; else what was read
 unfoldable pub tableReading : List ℕ → List ℕ → Outcome (List Section)
 tableReading bs t =
     andThen (reading true bs) (λ ss. need (roomFor (partsOf ss) t) (fault 23 (rowCount ss) 0) (found ss))
