@@ -10,6 +10,7 @@ use trusted_block_tests::kinds::*;
 use trusted_block_tests::library_writer::{add, add_lending, finish, lent_fields, start};
 use trusted_block_tests::parts::Part;
 use trusted_block_tests::views::taken_apart;
+use trusted_block_tests::writer;
 
 /// Which lengths a field may be lent with.
 #[derive(Clone, Copy, Debug)]
@@ -246,6 +247,46 @@ fn long_keys() {
             let given = added(&draft, more, &part);
             let expected = at_the_end(number, &draft);
             assert_eq!(given, expected, "{exponent} {modulus}");
+        }
+    }
+}
+
+/// Adds a part whose fields lie in the bytes right after the draft, which has
+/// so many bytes more than the part takes; all is as the second writer has it.
+fn added_from_beside(kind: u32, part: &Part, more: usize) {
+    let runs = lent_fields(part);
+    let mut expected = draft_for(kind);
+    expected.resize(expected.len() + part.size() + more, 0x77);
+    let mut bytes = [&expected[..], &runs.concat()].concat();
+    let answer = writer::add(&mut expected, part);
+    let (draft, fields) = bytes.split_at_mut(expected.len());
+    let (first, rest) = fields.split_at(runs[0].len());
+    let (second, third) = rest.split_at(runs[1].len());
+    let given = add_lending(draft, part, [first, second, third]);
+    assert_eq!(given, answer, "{kind:X} {more}");
+    assert_eq!(draft, expected, "{kind:X} {more}");
+    assert_eq!(fields, runs.concat(), "{kind:X} {more}");
+}
+
+/// A copy over a short way may be made in another manner than one over a long.
+#[test]
+fn fields_may_lie_right_after_the_draft() {
+    for more in [0, 1, 2, 7, 15, 16, 31, 32] {
+        for (kind, ..) in FIELDS {
+            added_from_beside(kind, &part_of_kind(kind), more);
+        }
+        for length in 0..100 {
+            let data = (1..=length).collect();
+            added_from_beside(APPLICATION_DATA, &Part::ApplicationData { data }, more);
+        }
+        for length in (0..40).chain(64..70) {
+            let part = Part::PublicKey {
+                modulus_bits: 512,
+                exponent: [&vec![0; length], &[3][..]].concat(),
+                modulus: vec![0x81; 64],
+                flags: 0,
+            };
+            added_from_beside(PUBLIC_KEY, &part, more);
         }
     }
 }
