@@ -1,6 +1,6 @@
 -- What an outcome says of the answer and of the lent draft. Assumes nothing.
 use mathlib.Core.Path.{_≡_, refl, sym, ap, ap₂, _∙_}
-use mathlib.Core.Bool.{Bool, false, _&&_, and-false}
+use mathlib.Core.Bool.{Bool, true, false, _&&_, and-false}
 use mathlib.Core.List.{List, _++_}
 use Prim.Native.Nat.{ℕ, _+_, _<_, _≤_}
 use native.Mathlib.Omega.{arith}
@@ -59,38 +59,32 @@ same-written d e a b = (a ∙ ap writeAnswer e, b ∙ ap (λ (y : Outcome (List 
 
 -- ---- the draft with a part after it
 
--- The test for room.
-abbrev fitting : List ℕ → List ℕ → Bool
-fitting d w = leb (stated d + length w) 3500 && leb (stated d + length w) (length d)
+-- The test for room: k bytes more are no more than a token may have, and no more than were lent.
+abbrev pub fitting : List ℕ → ℕ → Bool
+fitting d k = leb (stated d + k) 3500 && leb (stated d + k) (length d)
 
-no-room : {n : ℕ} (d : List ℕ) (o : ℕ) (w : List ℕ) → n ≡ stated d → fitting d w ≡ false
+pub past-most : (d : List ℕ) (k : ℕ) → 3500 < stated d + k → fitting d k ≡ false
+past-most d k h = ap (λ (b : Bool). b && leb (stated d + k) (length d)) (lt-leb (stated d + k) 3500 h)
+
+pub past-lent : (d : List ℕ) (k : ℕ) → length d < stated d + k → fitting d k ≡ false
+past-lent d k h = ap (λ (b : Bool). leb (stated d + k) 3500 && b) (lt-leb (stated d + k) (length d) h) ∙ and-false (leb (stated d + k) 3500)
+
+pub fits-in : (d : List ℕ) (k : ℕ) → stated d + k ≤ 3500 → stated d + k ≤ length d → fitting d k ≡ true
+fits-in d k h l = ap₂ (λ (a b : Bool). a && b) (le-leb (stated d + k) 3500 h) (le-leb (stated d + k) (length d) l)
+
+-- 23.
+pub no-room : {n : ℕ} (d : List ℕ) (o : ℕ) (w : List ℕ) → n ≡ stated d → fitting d (length w) ≡ false
     → (Refused 23 n ≡ writeAnswer (appended d o w)) × (d ≡ draftAfter (appended d o w) d)
 unfolding appended
 no-room d o w e b =
     refused-written (appended d o w) d
-    (record { cause = fault 23 (stated d) 0; is = need-failed (fitting d w) _ _ b; number = refl; place = e })
-
--- 23: the longer draft would have more bytes than a token may have,
-pub over-most : {n : ℕ} (d : List ℕ) (o : ℕ) (w : List ℕ) → n ≡ stated d → 3500 < stated d + length w
-    → (Refused 23 n ≡ writeAnswer (appended d o w)) × (d ≡ draftAfter (appended d o w) d)
-over-most d o w e h =
-    no-room d o w e (ap (λ (b : Bool). b && leb (stated d + length w) (length d)) (lt-leb (stated d + length w) 3500 h))
-
--- or than were lent.
-pub over-lent : {n : ℕ} (d : List ℕ) (o : ℕ) (w : List ℕ) → n ≡ stated d → length d < stated d + length w
-    → (Refused 23 n ≡ writeAnswer (appended d o w)) × (d ≡ draftAfter (appended d o w) d)
-over-lent d o w e h =
-    no-room d o w e
-    (ap (λ (b : Bool). leb (stated d + length w) 3500 && b) (lt-leb (stated d + length w) (length d) h)
-    ∙ and-false (leb (stated d + length w) 3500))
+    (record { cause = fault 23 (stated d) 0; is = need-failed (fitting d (length w)) _ _ b; number = refl; place = e })
 
 -- Where there is room, the longer draft is read.
 has-room : (d : List ℕ) (o : ℕ) (w : List ℕ) → stated d + length w ≤ 3500 → stated d + length w ≤ length d
     → appended d o w ≡ andThen (reading false (grown d o w)) (λ ts. found (grown d o w))
 unfolding appended
-has-room d o w h k =
-    need-passed (fitting d w) _ _
-    (ap₂ (λ (a b : Bool). a && b) (le-leb (stated d + length w) 3500 h) (le-leb (stated d + length w) (length d) k))
+has-room d o w h k = need-passed (fitting d (length w)) _ _ (fits-in d (length w) h k)
 
 -- Its refusal is the answer,
 pub longer-refused : {n p : ℕ} {bs : List ℕ} (d : List ℕ) (o : ℕ) (w : List ℕ) → stated d + length w ≤ 3500

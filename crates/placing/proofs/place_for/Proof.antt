@@ -8,10 +8,11 @@ use Rattle.format.specs.Reading.{stated}
 use Rattle.reading.proofs.Filled.{bytes-of}
 use Rattle.drafts.specs.Tiling.{Tiled}
 use Rattle.drafts.proofs.LaidSections.{reads-tiled}
+use Rattle.drafts.proofs.Outcomes.{past-most, past-lent}
 use Rattle.drafts.proofs.Calls.{reads, header-stands}
 use Rattle.placing.specs.Placing.{StandsIn}
 use Rattle.placing.proofs.Sections.{stands-told}
-use Rattle.placing.proofs.Places.{own-place, over-most, over-lent, stands-before, place-after}
+use Rattle.placing.proofs.Places.{own-place, no-place, stands-before, place-after}
 use borrow.Author.Needs.{needs}
 use Rattle.placing.proofs.place_for.Statement.{statement}
 use Rattle.placing.proofs.place_for.Tie as tie
@@ -58,7 +59,7 @@ returns c =
     let l : c .before .two .result ≡ stated d = c .before .two .ensures .0 in
     let m = k .most in
     let h = c .if1 .taken in
-    over-most d (c .before .before .before .before .before .before .before .args .id) (c .before .before .before .before .before .before .before .args .n) (w .0) (w .1) l (omega arith)
+    no-place d (c .before .before .before .before .before .before .before .args .id) (c .before .before .before .before .before .before .before .args .n) (w .0) (w .1) l (past-most d (c .before .before .before .before .before .before .before .args .n) (omega arith))
 
 -- src/lib.rt:60:16
 sub-if2 : tie.Need-sub-if2
@@ -82,7 +83,7 @@ returns-2 c =
     let l : c .before .before .two .result ≡ stated d = c .before .before .two .ensures .0 in
     let m = k .there in
     let h = c .if2 .taken in
-    over-lent d (c .before .before .before .before .before .before .before .before .args .id) (c .before .before .before .before .before .before .before .before .args .n) (w .0) (w .1) l (omega arith)
+    no-place d (c .before .before .before .before .before .before .before .before .args .id) (c .before .before .before .before .before .before .before .before .args .n) (w .0) (w .1) l (past-lent d (c .before .before .before .before .before .before .before .before .args .n) (omega arith))
 
 -- src/lib.rt:63:23
 slice-aggregate-stands : tie.Need-slice-aggregate-stands

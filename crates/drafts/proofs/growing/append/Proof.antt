@@ -9,7 +9,7 @@ use Rattle.format.proofs.Changes.{restate}
 use Rattle.reading.proofs.Filled.{bytes-of}
 use Rattle.drafts.proofs.Longer.{stated-at}
 use Rattle.drafts.proofs.InPlace.{put-in, in-front, taken-out}
-use Rattle.drafts.proofs.Outcomes.{over-most, over-lent, longer-refused, longer-found}
+use Rattle.drafts.proofs.Outcomes.{past-most, past-lent, no-room, longer-refused, longer-found}
 use borrow.Author.Needs.{needs}
 use Rattle.drafts.proofs.growing.append.Statement.{statement}
 use Rattle.drafts.proofs.growing.append.Tie as tie
@@ -37,7 +37,7 @@ returns c =
     let s = c .before .before .before .before .before .pre .most in
     let n = c .before .two .ensures .0 in
     let h = c .if1 .taken in
-    over-most (a .draft .now) (a .section) (a .part .now) n (omega arith)
+    no-room (a .draft .now) (a .section) (a .part .now) n (past-most (a .draft .now) (length (a .part .now)) (omega arith))
 
 -- src/growing.rt:48:8
 sub-if2 : tie.Need-sub-if2
@@ -58,7 +58,7 @@ returns-2 c =
     let s = c .before .before .before .before .before .before .pre .there in
     let n = c .before .before .two .ensures .0 in
     let h = c .if2 .taken in
-    over-lent (a .draft .now) (a .section) (a .part .now) n (omega arith)
+    no-room (a .draft .now) (a .section) (a .part .now) n (past-lent (a .draft .now) (length (a .part .now)) (omega arith))
 
 -- src/growing.rt:51:13
 add-n : tie.Need-add-n
