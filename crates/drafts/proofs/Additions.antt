@@ -26,10 +26,11 @@ use Rattle.format.proofs.Accepted.{reading-sound}
 use Rattle.format.proofs.Writing.{draft-front, draft-header}
 use Rattle.format.proofs.Changes.{restate, sectionsEnd, section-added, sub-added}
 use Rattle.format.proofs.Additions.{any-draft}
-use Rattle.drafts.specs.Adding.{lastPlace, grown, appended, unfit, sectionAdded, subsectionAdded}
-use Rattle.drafts.proofs.Sections.{id-small, stands-at, place-more}
-use Rattle.drafts.proofs.Outcomes.{same-written}
-use Rattle.drafts.proofs.Restating.{restate-over}
+use Rattle.longer_drafts.specs.Appended.{grown, appended}
+use Rattle.drafts.specs.Adding.{lastPlace, unfit, sectionAdded, subsectionAdded}
+use Rattle.draft_parts.proofs.Sections.{id-small, stands-at, place-more}
+use Rattle.longer_drafts.proofs.Outcomes.{same-written}
+use Rattle.longer_drafts.proofs.Restating.{restate-over}
 use Rattle.drafts.proofs.Joining.{section-joins, sub-joins-last, sub-alone}
 
 -- ---- outcomes

@@ -3,24 +3,24 @@ use mathlib.Core.Path.{_≡_, refl, sym, ap, ap₂, _∙_}
 use mathlib.Core.Bool.{Bool, true, false, _&&_}
 use mathlib.Core.List.{List, _++_}
 use mathlib.Core.Logic.{inl}
-use Prim.Native.Nat.{ℕ, _+_, _<_, _≤_}
-use native.Mathlib.Nat.{add-zero}
+use Prim.Native.Nat.{ℕ, _+_, _≤_}
 use native.Mathlib.Omega.{arith}
 use lib.Dec.{leb}
-use lib.ListN.{length, getD, drop, length-drop}
-use lib.Seq.{getD-drop}
+use lib.ListN.{length}
 use borrow.Author.Tests.{leb-true}
 use Rattle.format.specs.Rules.{Section}
-use Rattle.format.specs.Reading.{Fault, Outcome, refused, found, fault, need, andThen, asAnswer, idOf, stated, headerChecks, reading, rowCount}
+use Rattle.format.specs.Reading.{Fault, Outcome, refused, found, fault, need, andThen, asAnswer, stated, headerChecks, reading, rowCount}
 use Rattle.format.specs.Writer.{writeAnswer, draftAfter}
 use Rattle.format.specs.declared.Answer.{Answer}
 use Rattle.format.specs.declared.Answer.the-variants.{Accepted, Refused}
+use Rattle.format.proofs.Tests.{tests-passed, needed, followed, then-found, then-refused, Hold}
 use Rattle.format.proofs.Accepted.{allowed}
 use Rattle.format.proofs.Finding.{and-split}
-use Rattle.format.proofs.Numbers.{number-one}
-use Rattle.format.proofs.Tests.{tests-passed, needed, followed, then-found, then-refused}
-use Rattle.drafts.specs.Adding.{Reads, Standing, grown, appended, refusedAfter, ownFirst, unfit}
-use Rattle.drafts.proofs.Outcomes.{RefusedBy, told-refused, told-found, refused-written, same-written}
+use Rattle.contents.proofs.Headers.{lengths}
+use Rattle.draft_parts.specs.Tiling.{Reads}
+use Rattle.longer_drafts.specs.Appended.{Standing, grown, appended}
+use Rattle.longer_drafts.proofs.Outcomes.{RefusedBy, told-refused, told-found, refused-written, same-written}
+use Rattle.drafts.specs.Adding.{refusedAfter, ownFirst, unfit}
 
 -- ---- the draft's own reading
 
@@ -36,6 +36,13 @@ header-stands d r =
     let a = allowed false d (leb-true 8 (length d) (c .0)) (c .1 .1 .1 .0) in
     let e = a .eight in
     record { least = e; most = a .most; there = a .ends; head = omega arith; ends = omega arith; apart = inl refl }
+
+-- So they are where its header passes its tests.
+pub header-standing : (d : List ℕ) → Hold (headerChecks false d) → Standing d 0
+header-standing d h =
+    let l = lengths false d h in
+    let a = l .least in
+    record { least = a; most = l .most; there = l .within; head = omega arith; ends = omega arith; apart = inl refl }
 
 -- The draft's own fault is the answer of every call, and the draft is as it was.
 pub fault-first : {n p : ℕ} (d : List ℕ) (next : List Section → Outcome (List ℕ)) → Refused n p ≡ asAnswer rowCount (reading false d)
@@ -168,8 +175,6 @@ pub left-found : {m : ℕ} (d : List ℕ) (rest : Outcome (List Section)) (ss : 
     → Accepted m ≡ asAnswer rowCount rest → Reads d
 left-found d rest ss e own = let r = told-found rowCount rest own in (ss ++ r .0, e ∙ then-found _ (r .1))
 
--- the id of the section at a place is the byte there
-pub id-at : (d : List ℕ) (o : ℕ) → o < length d → idOf (drop o d) ≡ getD d o 0
-id-at d o h =
-    let l = length-drop o d in
-    number-one (drop o d) 0 (omega arith) ∙ getD-drop o d 0 0 ∙ ap (λ (j : ℕ). getD d j 0) (add-zero o)
+-- A refusal leaves the draft as it was.
+pub refused-kept : (d : List ℕ) (n p : ℕ) → draftAfter (refusedAfter d n p) d ≡ d
+refused-kept d n p = kept (reading false d) (fault n p 0) d

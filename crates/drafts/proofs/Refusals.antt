@@ -13,21 +13,22 @@ use Rattle.format.specs.Bytes.{Bytes}
 use Rattle.format.specs.Parts.{external, writeParts}
 use Rattle.format.specs.Rules.{Check, Section}
 use Rattle.format.specs.Reading.{Fault, fault, Outcome, refused, found, need, tested, idOf, stated, headerChecks, section, reading}
-use Rattle.format.proofs.Numbers.{bytes-take, bytes-drop}
 use Rattle.format.proofs.Tests.{Hold, tests-lead, then-found, then-refused}
-use Rattle.format.proofs.Turns.{sectionsFrom, sections-from, sections-none, sections-more}
 use Rattle.format.proofs.Grouping.{all-join, all-split}
 use Rattle.format.proofs.Changes.{restate}
+use Rattle.format.proofs.Numbers.{bytes-take, bytes-drop}
+use Rattle.format.proofs.Turns.{sectionsFrom, sections-from, sections-none, sections-more}
+use Rattle.format.proofs.Numbering.{Early, Comes, Inside, section-comes}
 use Rattle.format.proofs.Sound.{section-read}
 use Rattle.format.proofs.Complete.{section-found}
-use Rattle.format.proofs.Numbering.{Early, Comes, Inside, section-comes}
 use Rattle.contents.proofs.Headers.{lengths}
-use Rattle.drafts.specs.Adding.{grown, Reads}
-use Rattle.drafts.specs.Tiling.{TiledTo, here, next, Tiled}
-use Rattle.drafts.proofs.Tiling.{stated-front, passed, passed-then}
-use Rattle.drafts.proofs.Longer.{restate-long, grown-long}
-use Rattle.drafts.proofs.Restating.{behind-restated, restate-id, restate-stated, restate-over, id-taken}
-use Rattle.drafts.proofs.Whole.{header-standing}
+use Rattle.draft_parts.specs.Tiling.{Reads, TiledTo, here, next, Tiled}
+use Rattle.draft_parts.proofs.Tiling.{stated-front, passed, passed-then}
+use Rattle.longer_drafts.specs.Appended.{grown, appended}
+use Rattle.longer_drafts.proofs.Longer.{restate-long, grown-long}
+use Rattle.longer_drafts.proofs.Restating.{behind-restated, restate-id, restate-stated, restate-over, id-taken}
+use Rattle.drafts.specs.Adding.{ownFirst, sectionAdded}
+use Rattle.drafts.proofs.Calls.{header-standing, own-first, appended-passed}
 
 -- ---- one section
 
@@ -199,3 +200,11 @@ front-read d w b c h m t l =
           ∙ r .1 []
           ∙ sections-none false x (r .0) (8 + length (passed t)) [] refl,
     )
+
+-- So an addition of a section that reads the longer draft first is the addition of the definition.
+pub section-tried : (d w : List ℕ) → Bytes d → Bytes w → Hold (headerChecks false d) → Tiled (drop 8 (take (stated d) d))
+    → ownFirst d (appended d 0 w) ≡ sectionAdded d w
+unfolding sectionAdded
+section-tried d w b c h t =
+    own-first d (appended d 0 w)
+    (λ bs e. let p = appended-passed d 0 w bs e in front-read d w b c h (p .0) t (subst (Late (stated d)) (sym (p .1 .1)) tt))

@@ -3,7 +3,7 @@
 ghost use mathlib.Core.Path.{_≡_};
 ghost use Rattle.format.specs.Parts.{exportParameters};
 ghost use Rattle.format.specs.Writer.{writeAnswer, draftAfter, addition, exportFields};
-use drafts::add_subsection;
+use added_subsections::add_subsection;
 use drafts::heads::subsection_head;
 use drafts::not_fitting;
 use format::Answer;

@@ -6,7 +6,7 @@ ghost use mathlib.Core.Path.{_≡_};
 ghost use mathlib.Core.List.{[], _∷_};
 ghost use Rattle.format.specs.Parts as Parts;
 ghost use Rattle.format.specs.Writer.{writeAnswer, draftAfter, addition, dateFields};
-use drafts::add_subsection;
+use added_subsections::add_subsection;
 use drafts::heads::subsection_head;
 use drafts::not_fitting;
 use format::Answer;

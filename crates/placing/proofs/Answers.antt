@@ -20,13 +20,14 @@ use Rattle.format.proofs.Tests.{Hold, needed, followed, found-inj, then-found, 
 use Rattle.format.proofs.Changes.{restate}
 use Rattle.sections.specs.Refusals.{firstRefusal}
 use Rattle.sections.proofs.Subs.{stops}
-use Rattle.drafts.specs.Adding.{Reads, grown}
-use Rattle.drafts.proofs.Outcomes.{told-refused, told-found, refused-written, found-written}
-use Rattle.drafts.proofs.Longer.{grown-long}
-use Rattle.drafts.proofs.InPlace.{put-in}
+use Rattle.draft_parts.specs.Tiling.{Reads}
+use Rattle.longer_drafts.specs.Appended.{grown}
+use Rattle.longer_drafts.proofs.Outcomes.{told-refused, told-found, refused-written, found-written}
+use Rattle.longer_drafts.proofs.Longer.{grown-long}
+use Rattle.longer_drafts.proofs.InPlace.{put-in}
 use Rattle.drafts.proofs.Calls.{header-stands}
 use Rattle.drafts.proofs.Additions.{made}
-use Rattle.drafts.proofs.Restating.{restate-over}
+use Rattle.longer_drafts.proofs.Restating.{restate-over}
 use Rattle.placing.specs.Placing.{idAmong, placeFor}
 use Rattle.placing.proofs.Judging.{Single, judged}
 

@@ -26,8 +26,9 @@ use Rattle.format.proofs.PartForm.{Framed, part-read}
 use Rattle.format.proofs.Sound.{GoodSection}
 use Rattle.format.proofs.Complete.{least-le, part-stated}
 use Rattle.format.proofs.Accepted.{reading-sound}
-use Rattle.drafts.specs.Adding.{grown, appended, sectionAdded}
-use Rattle.drafts.proofs.LastHead.{known}
+use Rattle.longer_drafts.specs.Appended.{grown, appended}
+use Rattle.drafts.specs.Adding.{sectionAdded}
+use Rattle.drafts.proofs.Alone.{known}
 use Rattle.drafts.proofs.Additions.{same-need, section-same}
 use Rattle.placing.specs.Placing.{idAmong, placeFor}
 use Rattle.placing.proofs.Longer.{reading-after}

@@ -16,15 +16,15 @@ use Rattle.format.proofs.Numbers.{bytes-take, bytes-drop}
 use Rattle.format.proofs.Tests.{Hold, tests-passed, tests-lead, found-inj}
 use Rattle.format.proofs.Turns.{sectionsFrom, sections-from, sections-none}
 use Rattle.format.proofs.Changes.{restate}
-use Rattle.drafts.specs.Adding.{grown}
-use Rattle.drafts.specs.Tiling.{Tiled}
-use Rattle.drafts.proofs.Tiling.{passed, passed-then}
-use Rattle.drafts.proofs.Restating.{restate-over}
-use Rattle.drafts.proofs.Longer.{grown-long}
-use Rattle.drafts.proofs.LaidSections.{reads-tiled}
+use Rattle.longer_drafts.specs.Appended.{grown}
+use Rattle.draft_parts.specs.Tiling.{Tiled}
+use Rattle.draft_parts.proofs.Tiling.{passed, passed-then}
+use Rattle.longer_drafts.proofs.Restating.{restate-over}
+use Rattle.longer_drafts.proofs.Longer.{grown-long}
+use Rattle.draft_parts.proofs.LaidSections.{reads-tiled}
 use Rattle.drafts.proofs.Calls.{header-stands}
 use Rattle.drafts.proofs.Refusals.{Late, sections-front, grown-parts}
-use Rattle.drafts.proofs.LastHead.{alone}
+use Rattle.drafts.proofs.Alone.{alone}
 
 -- Another length in the header, and other bytes after it, leave its version and what is reserved.
 header-kept : (a y w : List ℕ) (n : ℕ) → 8 ≤ length a

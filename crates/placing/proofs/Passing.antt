@@ -1,13 +1,13 @@
 -- Stepping past parts with other ids. Assumes nothing.
 use mathlib.Core.Path.{_≡_, sym, ap, _∙_, subst}
 use mathlib.Core.List.{List, []}
-use Prim.Native.Nat.{ℕ, _+_, _-_, _≤_, _<_}
+use Prim.Native.Nat.{ℕ, _+_, _≤_, _<_}
 use native.Mathlib.Omega.{arith}
 use lib.ListN.{length, drop, drop-of-length-le, length-drop}
 use lib.Seq.{drop-drop}
 use Rattle.format.specs.Reading.{idOf, stated}
-use Rattle.drafts.specs.Tiling.{TiledTo, here, next, Tiled}
-use Rattle.drafts.proofs.Tiling.{tiled-on, tiled-first}
+use Rattle.draft_parts.specs.Tiling.{TiledTo, here, next, Tiled}
+use Rattle.draft_parts.proofs.Tiling.{tiled-on, tiled-first}
 use Rattle.placing.specs.Placing as Placing
 use Rattle.placing.specs.Placing.{PassedTo}
 

@@ -8,7 +8,7 @@ use Rattle.format.specs.Rules.{Section}
 use Rattle.format.specs.Reading.{found, fault, need, asAnswer, stated, reading, rowCount}
 use Rattle.format.specs.declared.Answer.the-variants.{Accepted, Refused}
 use Rattle.format.proofs.Tests.{need-passed, need-failed, then-found, then-refused}
-use Rattle.drafts.proofs.Outcomes.{told-refused, fitting, fits-in}
+use Rattle.longer_drafts.proofs.Outcomes.{told-refused, fitting, fits-in}
 use Rattle.placing.specs.Placing.{idAmong, placeFor}
 
 -- The draft's own fault.

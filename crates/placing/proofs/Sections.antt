@@ -2,7 +2,7 @@
 use mathlib.Core.Path.{_≡_, refl, sym, ap, ap₂, _∙_, subst}
 use mathlib.Core.Bool.{Bool, true, false, _||_}
 use mathlib.Core.List.{List, [], _∷_, _++_}
-use Prim.Native.Nat.{ℕ, _+_, _≤_, _<_}
+use Prim.Native.Nat.{ℕ, _≤_, _<_}
 use native.Mathlib.Omega.{arith}
 use lib.Dec.{eqb}
 use lib.ListN.{length, take, drop, length-append}
@@ -16,10 +16,10 @@ use Rattle.format.proofs.Finding.{or-left, or-right}
 use Rattle.format.proofs.Grouping.{all-split}
 use Rattle.format.proofs.Sound.{GoodSection}
 use Rattle.format.proofs.Accepted.{reading-sound}
-use Rattle.drafts.specs.Tiling.{TiledTo}
-use Rattle.drafts.proofs.Tiling.{stated-front, States, laid, passed-then, cut-at}
-use Rattle.drafts.proofs.LaidSections.{sectionBytes, draft-laid}
-use Rattle.drafts.proofs.SubsectionFronts.{section-id}
+use Rattle.draft_parts.specs.Tiling.{TiledTo}
+use Rattle.draft_parts.proofs.Tiling.{stated-front, States, laid, passed-then, cut-at}
+use Rattle.draft_parts.proofs.LaidSections.{sectionBytes, draft-laid}
+use Rattle.draft_parts.proofs.LaidSections.{section-id}
 use Rattle.placing.specs.Placing.{idAmong, PassedTo, here, next, StandsIn}
 
 -- Bytes after do not change the id.

@@ -8,7 +8,7 @@ use lib.ListN.{length, drop}
 use Rattle.format.specs.Parts.{sectionId}
 use Rattle.format.specs.Rules.{Section}
 use Rattle.format.specs.Reading.{Outcome, found, fault, need, andThen, idOf, stated, reading}
-use Rattle.drafts.specs.Tiling.{TiledTo}
+use Rattle.draft_parts.specs.Tiling.{TiledTo}
 
 -- a section with the id i is among these
 abbrev pub idAmong : ℕ → List Section → Bool

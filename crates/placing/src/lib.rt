@@ -3,7 +3,7 @@ ghost use mathlib.Core.Path.{_≡_};
 ghost use Prim.Native.Nat.{ℕ, _+_, _≤_};
 ghost use lib.ListN.{length, drop};
 ghost use Rattle.format.specs.Reading.{asAnswer};
-ghost use Rattle.drafts.specs.Tiling.{Tiled};
+ghost use Rattle.draft_parts.specs.Tiling.{Tiled};
 ghost use Rattle.placing.specs.Placing.{PassedTo, StandsIn, placeFor};
 use fields::two;
 use format::Answer;

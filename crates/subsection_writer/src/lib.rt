@@ -8,7 +8,7 @@ ghost use mathlib.Core.List.{[], _∷_};
 ghost use Rattle.format.specs.Parts.{Kind, transportVariant, transportRule, sourceRule};
 ghost use Rattle.format.specs.Writer.{writeAnswer, draftAfter, addition};
 ghost use Rattle.subsection_writer.specs.References.{NamesRule};
-use drafts::add_subsection;
+use added_subsections::add_subsection;
 use drafts::heads::subsection_head;
 use drafts::not_fitting;
 use format::Answer;

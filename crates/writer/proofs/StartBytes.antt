@@ -12,7 +12,7 @@ use Rattle.format.specs.Writer.{writeAnswer, draftAfter, start}
 use Rattle.format.specs.declared.Answer.the-variants.{Accepted, Refused}
 use Rattle.storing.specs.Storing.{Stored}
 use Rattle.storing.proofs.Stores.{sets-front}
-use Rattle.drafts.proofs.Outcomes.{same-written}
+use Rattle.longer_drafts.proofs.Outcomes.{same-written}
 
 -- a draft of less than 8 bytes
 pub too-short : (i : ℕ) (d : List ℕ) → length d < 8

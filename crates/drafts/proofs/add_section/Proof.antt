@@ -2,8 +2,9 @@
 use Rattle.reading.proofs.Filled.{bytes-of}
 use Rattle.drafts.specs.Adding.{sectionAdded}
 use Rattle.drafts.proofs.Calls.{unread}
-use Rattle.drafts.proofs.Outcomes.{same-written}
-use Rattle.drafts.proofs.Adding.{sections-ended, sections-broken, section-tried}
+use Rattle.longer_drafts.proofs.Outcomes.{same-written}
+use Rattle.draft_parts.proofs.Ended.{sections-ended, sections-broken}
+use Rattle.drafts.proofs.Refusals.{section-tried}
 use borrow.Author.Needs.{needs}
 use Rattle.drafts.proofs.add_section.Statement.{statement}
 use Rattle.drafts.proofs.add_section.Tie as tie

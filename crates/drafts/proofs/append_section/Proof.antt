@@ -3,8 +3,8 @@ use mathlib.Core.Path.{sym, subst, _∙_}
 use native.Mathlib.Omega.{arith}
 use Rattle.format.specs.Reading.{stated}
 use Rattle.reading.proofs.Filled.{bytes-of}
-use Rattle.drafts.specs.Adding.{appended}
-use Rattle.drafts.proofs.Whole.{header-standing}
+use Rattle.longer_drafts.specs.Appended.{appended}
+use Rattle.drafts.proofs.Calls.{header-standing}
 use Rattle.drafts.proofs.Calls.{own-refused, own-late, own-found, appended-refused}
 use Rattle.drafts.proofs.Refusals.{Late, front-read}
 use borrow.Author.Needs.{needs}

@@ -13,7 +13,7 @@ use Rattle.storing.proofs.Stores.{stored-then}
 use Rattle.drafts.proofs.Additions.{unfit-added}
 use Rattle.drafts.proofs.Calls.{header-stands}
 use Rattle.drafts.proofs.Fields.{count-unfit, counted-fits}
-use Rattle.drafts.proofs.Longer.{length-stored}
+use Rattle.longer_drafts.proofs.Longer.{length-stored}
 use Rattle.drafts.proofs.StoredParts.{stored-last}
 use Rattle.placing.proofs.Answers.{Ready, placed, no-place, put-after}
 use borrow.Author.Needs.{needs}

@@ -18,7 +18,7 @@ use Rattle.reading.proofs.Filled.{bytes-of}
 use Rattle.drafts.proofs.Additions.{unfit-added}
 use Rattle.drafts.proofs.Calls.{header-stands}
 use Rattle.drafts.proofs.Fields.{fixed-fits, count-fits, count-unfit, later-unfit}
-use Rattle.drafts.proofs.Longer.{length-stored}
+use Rattle.longer_drafts.proofs.Longer.{length-stored}
 use Rattle.placing.proofs.Answers.{Ready, placed, no-place, rule-broken, put-after}
 use borrow.Author.Needs.{needs}
 use Rattle.long_section_writer.proofs.public_key.Statement.{statement}

@@ -4,8 +4,8 @@ use Prim.Native.Nat.{ℕ, _-_, _≤_}
 use native.Mathlib.Omega.{arith}
 use lib.ListN.{length, drop}
 use Rattle.format.specs.Reading.{idOf, stated}
-use Rattle.drafts.proofs.Longer.{stated-at}
-use Rattle.drafts.proofs.Calls.{id-at}
+use Rattle.draft_parts.proofs.Tiling.{stated-at}
+use Rattle.draft_parts.proofs.Tiling.{id-at}
 use Rattle.placing.specs.Placing.{PassedTo, here}
 use Rattle.placing.proofs.Passing.{passed-part}
 use Rattle.placing.proofs.after_bare_rules.Statement.{statement}

@@ -6,9 +6,9 @@ use lib.ListN.{take, drop}
 use lib.Seq.{length-take-le}
 use Rattle.format.specs.Reading.{stated}
 use Rattle.reading.proofs.Filled.{bytes-of}
-use Rattle.drafts.specs.Tiling.{Tiled}
-use Rattle.drafts.proofs.LaidSections.{reads-tiled}
-use Rattle.drafts.proofs.Outcomes.{past-most, past-lent}
+use Rattle.draft_parts.specs.Tiling.{Tiled}
+use Rattle.draft_parts.proofs.LaidSections.{reads-tiled}
+use Rattle.longer_drafts.proofs.Outcomes.{past-most, past-lent}
 use Rattle.drafts.proofs.Calls.{reads, header-stands}
 use Rattle.placing.specs.Placing.{StandsIn}
 use Rattle.placing.proofs.Sections.{stands-told}

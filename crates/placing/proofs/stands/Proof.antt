@@ -3,8 +3,8 @@ use mathlib.Core.Path.{sym, _∙_}
 use Prim.Native.Nat.{_-_, _≤_}
 use native.Mathlib.Omega.{arith}
 use lib.ListN.{length, drop, length-drop}
-use Rattle.drafts.proofs.Longer.{stated-at}
-use Rattle.drafts.proofs.Calls.{id-at}
+use Rattle.draft_parts.proofs.Tiling.{stated-at}
+use Rattle.draft_parts.proofs.Tiling.{id-at}
 use Rattle.placing.specs.Placing.{PassedTo}
 use Rattle.placing.proofs.Passing.{passed-tiled, passed-through, passed-part, part-ends, passed-all}
 use Rattle.placing.proofs.stands.Statement.{statement}

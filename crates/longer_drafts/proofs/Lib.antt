@@ -1,0 +1,4 @@
+pub mod Restating
+pub mod Longer
+pub mod InPlace
+pub mod Outcomes
