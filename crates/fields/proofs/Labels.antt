@@ -8,8 +8,8 @@ use native.Mathlib.Omega.{arith}
 use lib.Dec.{eqb, leb}
 use lib.ListN.{length, getD, take}
 use borrow.Author.Tests.{eq-eqb, ne-eqb, lt-leb}
-use Rattle.format.specs.Bytes.{bytesAt}
-use Rattle.format.specs.Forms.{leading, howMany, digit, star, inLabel, padded, labelForm}
+use Rattle.format.specs.Bytes.{howMany, bytesAt}
+use Rattle.format.specs.Forms.{leading, digit, star, inLabel, padded, labelForm}
 use Rattle.fields.specs.Classes.{classOf, ofClass}
 use Rattle.fields.proofs.Lists.{bytes-take, bytes-get}
 use Rattle.fields.proofs.Classes.{label-class, digit-class, star-class}

@@ -9,8 +9,8 @@ use lib.Dec.{eqb, leb, eqb·suc-suc, eqb·zero-suc}
 use borrow.Author.Tests.{eq-eqb, ne-eqb, eqb-true, eqb-false, le-leb}
 use mathlib.Core.Logic.{⊎-elim}
 use lib.ListN.{length, getD, drop}
-use Rattle.format.specs.Bytes.{bytesAt}
-use Rattle.format.specs.Forms.{every, leading, howMany, space, padded}
+use Rattle.format.specs.Bytes.{every, howMany, bytesAt}
+use Rattle.format.specs.Forms.{leading, space, padded}
 use Rattle.fields.specs.Classes.{ofClass}
 use Rattle.fields.proofs.Lists.{bytes-end, bytes-next, bytes-start, bytes-length, bytes-drop}
 use Rattle.fields.proofs.Classes.{yes-or-no, space-class}

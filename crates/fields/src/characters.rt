@@ -2,8 +2,8 @@
 ghost use mathlib.Core.Path.{_≡_};
 ghost use Prim.Native.Nat.{_+_, _-_, _≤_};
 ghost use lib.ListN.{length};
-ghost use Rattle.format.specs.Bytes.{bytesAt};
-ghost use Rattle.format.specs.Forms.{leading, howMany, star, ruleIdForm, labelForm};
+ghost use Rattle.format.specs.Bytes.{howMany, bytesAt};
+ghost use Rattle.format.specs.Forms.{leading, star, ruleIdForm, labelForm};
 ghost use Rattle.fields.specs.Classes.{classOf, ofClass};
 
 // The classes of characters. Those of a Rule ID are RULE_SIGN to DIGIT, those of a label template LETTER to STAR.

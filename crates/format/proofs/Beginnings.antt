@@ -7,10 +7,10 @@ use Prim.Native.Nat.{ℕ, _+_, _≤_, _<_}
 use native.Mathlib.Omega.{arith}
 use lib.Dec.{eqb, leb}
 use lib.ListN.{length, getD, drop, replicate}
-use Rattle.format.specs.Bytes.{All, Bytes, bigEndian, number}
+use Rattle.format.specs.Bytes.{All, every, Bytes, bigEndian, number}
 use Rattle.format.specs.Layout.{Item, code, zeros, own, count, fixed, counted, Fields, write, fits}
 use Rattle.format.specs.Parts.{Kind, exportParameters, tokenParameters, sectionId, sameKind, isSubsection, layout, header, Part, size, span, writeParts, written, joins, Choice}
-use Rattle.format.specs.Rules.{checks, Section, frontSubs, sectionsOf, ofKind, each, mayBothStand, otherKind, maskCovers}
+use Rattle.format.specs.Rules.{checks, Section, frontSubs, sectionsOf, ofKind, mayBothStand, otherKind, maskCovers}
 use Rattle.format.specs.Parts.{external}
 use Rattle.format.specs.Legal.{Pairwise, Lawful}
 use Rattle.format.proofs.Numbers.{bytes-append, bytes-bigEndian, bytes-zeros}
@@ -168,9 +168,9 @@ heads-join (p ∷ ps) qs = go (isSubsection (p .kind)) (heads-join ps qs)
     go false e = ap (λ (y : List Part). p ∷ y) e
 
 -- Fewer subsections stand in fewer relations.
-each-front : (f : Part → Bool) (us vs : List Part) → each f (us ++ vs) ≡ true → each f us ≡ true
-each-front f [] vs e = refl
-each-front f (u ∷ us) vs e = let s = and-split (f u) (each f (us ++ vs)) e in and-join _ _ (s .0) (each-front f us vs (s .1))
+every-front : (f : Part → Bool) (us vs : List Part) → every f (us ++ vs) ≡ true → every f us ≡ true
+every-front f [] vs e = refl
+every-front f (u ∷ us) vs e = let s = and-split (f u) (every f (us ++ vs)) e in and-join _ _ (s .0) (every-front f us vs (s .1))
 
 -- The parts of a kind in two lists, one after the other.
 pub kind-join : (k : Kind) (us vs : List Part) → ofKind k (us ++ vs) ≡ ofKind k us ++ ofKind k vs
@@ -183,18 +183,18 @@ kind-join k (u ∷ us) vs = go (sameKind k (u .kind)) (kind-join k us vs)
     go true e = ap (λ (y : List Part). u ∷ y) e
     go false e = e
 
-each-map : (f g : Part → Bool) → ((p : Part) → f p ≡ true → g p ≡ true) → (us : List Part) → each f us ≡ true → each g us ≡ true
-each-map f g h [] e = refl
-each-map f g h (u ∷ us) e = let s = and-split (f u) (each f us) e in and-join _ _ (h u (s .0)) (each-map f g h us (s .1))
+every-map : (f g : Part → Bool) → ((p : Part) → f p ≡ true → g p ≡ true) → (us : List Part) → every f us ≡ true → every g us ≡ true
+every-map f g h [] e = refl
+every-map f g h (u ∷ us) e = let s = and-split (f u) (every f us) e in and-join _ _ (h u (s .0)) (every-map f g h us (s .1))
 
 mask-front : (us vs : List Part) → maskCovers (us ++ vs) ≡ true → maskCovers us ≡ true
 mask-front us vs e =
     let covers : List Part → Part → Part → Bool = λ ws p q. leb (number (getD (q .fields) 0 [])) (length (getD (p .fields) 0 [])) in
     let a = rw (kind-join tokenParameters us vs) at e in
-    each-map _ _
+    every-map _ _
     (λ p h. or-map (eqb (length (getD (p .fields) 0 [])) 0) _ _
-    (λ k. each-front (covers us p) (ofKind exportParameters us) (ofKind exportParameters vs) (rw (kind-join exportParameters us vs) at k)) h)
-    (ofKind tokenParameters us) (each-front _ (ofKind tokenParameters us) (ofKind tokenParameters vs) a)
+    (λ k. every-front (covers us p) (ofKind exportParameters us) (ofKind exportParameters vs) (rw (kind-join exportParameters us vs) at k)) h)
+    (ofKind tokenParameters us) (every-front _ (ofKind tokenParameters us) (ofKind tokenParameters vs) a)
 
 -- A beginning of parts that keep the rules but those of refusal 20 keeps them.
 pub lawful-front : (i : ℕ) (ps qs : List Part) → Lawful i (ps ++ qs) → Lawful i ps

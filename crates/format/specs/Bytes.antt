@@ -1,23 +1,19 @@
--- Lists of bytes, and big-endian numbers over any width.
+-- Lists, bytes, and big-endian numbers over any width.
 --
--- 01 is the description of the build and of the format that the project was given; "Beside 01" in a file names what to hold
--- beside it.
+-- 01 is the description that the project was given; "Beside 01" in a file names what of it to hold beside the file.
 --
--- How to read these files; what stands after `use`, and `pub`, `abbrev`, `unfoldable`, may be passed over (`as` in a `use` line
--- gives another name).
--- f : A → B → C    a function of an A and a B; `f x y` is its value, by the clause whose patterns fit; `λ x. e` has no name
+-- How to read these files. What stands after `use`, and `pub`, `abbrev`, `unfoldable`, may be passed over.
+-- f : A → B → C    a function of an A and a B; `f x y` is its value, by the clause that fits; `λ x. e` has no name
 -- {A : Type 0} →   for any type A; a `Type 0` is a type of data or a statement
--- statements       x ≡ y, x < y, x ≤ y; P × Q both; (x : A) × B there is an x with B; (x : A) → B for every x (where B is
---                  data, a function of x); Unit {0} always
+-- statements       x ≡ y, x < y, x ≤ y; P × Q both; Unit {0} always; (x : A) → B for every x
 -- tests            eqb =, ltb <, leb ≤; &&, ||, not; `t ≡ true` states a test
--- data, record     `data` lists the forms of its values. A `record` has all its lines: as a statement it asks for all of
---                  them, and where some are data (`Legal`) says that there are such; `record { f = a; .. }` is a value, `r .f`
---                  its field; `(a, b)` is a pair, `p .0` and `p .1` its parts
--- lists            [] empty; x ∷ xs; ++ joins; length; take n l, drop n l the first n, the rest; replicate n x; map f l;
---                  set l k x: l with x for element k; getD l k d: element k, from 0, or d; getElem? l k: `some` of it or `none`
+-- data, record     `data` lists the forms of its values; a `record` has all its lines, and as a statement asks for all of
+--                  them; `r .f` is its field. `(a, b)` is a pair, `p .0` and `p .1` its parts
+-- lists            [] empty; x ∷ xs; ++ joins; take n l, drop n l the first n, the rest; getD l k d element k, from 0, or d;
+--                  getElem? l k `some` of it or `none`; set l k x: l with x for element k; replicate n x; map f l
 -- numbers          suc n is n + 1; a difference stops at 0; / drops the remainder, which is %; ^ is power
--- elim e [ p ↦ a | .. ]   a choice by cases, `as (λ x. T)` only gives its type; `let x = e in` gives e a name
-use mathlib.Core.Bool.{Bool, true, false, _&&_}
+-- elim e [ p ↦ a | .. ]   a choice by cases, `as ..` only gives its type; `let x = e in` gives e a name
+use mathlib.Core.Bool.{Bool, true, false, _&&_, _||_}
 use mathlib.Core.List.{List, [], _∷_, _++_}
 use Prim.Native.Nat.{ℕ, zero, suc, _+_, _*_, _/_, _%_, _<_}
 use lib.Dec.{eqb}
@@ -27,6 +23,21 @@ use lib.ListN.{take, drop}
 abbrev pub All : {A : Type 0} → (A → Type 0) → List A → Type 0
 All P [] = Unit {0}
 All P (x ∷ xs) = P x × All P xs
+
+-- every element passes the test
+abbrev pub every : {A : Type 0} → (A → Bool) → List A → Bool
+every f [] = true
+every f (x ∷ xs) = f x && every f xs
+
+-- some element passes the test
+abbrev pub any : {A : Type 0} → (A → Bool) → List A → Bool
+any f [] = false
+any f (x ∷ xs) = f x || any f xs
+
+-- how many elements pass the test
+abbrev pub howMany : {A : Type 0} → (A → Bool) → List A → ℕ
+howMany f [] = 0
+howMany f (x ∷ xs) = elim (f x) as (λ b. ℕ) [ true ↦ 1 | false ↦ 0 ] + howMany f xs
 
 -- every element is a byte
 abbrev pub Bytes : List ℕ → Type 0
@@ -52,8 +63,7 @@ bytesAt bs i n = take n (drop i bs)
 
 -- every byte is 0
 unfoldable pub allZero : List ℕ → Bool
-allZero [] = true
-allZero (b ∷ bs) = eqb b 0 && allZero bs
+allZero bs = every (λ (b : ℕ). eqb b 0) bs
 
 -- the two lists are the same bytes
 unfoldable pub sameBytes : List ℕ → List ℕ → Bool

@@ -7,6 +7,7 @@ use mathlib.Core.Option.{some}
 use Prim.Native.Nat.{ℕ, zero, suc, _+_, _/_, _%_}
 use lib.Dec.{eqb}
 use lib.ListN.{length, drop, set, getElem?}
+use Rattle.format.specs.Bytes.{howMany}
 use Rattle.format.specs.Slots.{Slot, slots}
 use Rattle.format.specs.Parts.{Part, isSubsection, layout, size, writeParts}
 use Rattle.format.specs.Rules.{Section, frontSubs}
@@ -38,8 +39,7 @@ subsOf p ps = elim (isSubsection (p .kind)) [ true ↦ [] | false ↦ frontSubs 
 
 -- How many of the rows are those of rules, sections 12. In `count-by-rows`.
 abbrev pub ruleRows : List Row → ℕ
-ruleRows [] = 0
-ruleRows (r ∷ rs) = elim (eqb 0x120000 (r .kind)) as (λ b. ℕ) [ true ↦ 1 | false ↦ 0 ] + ruleRows rs
+ruleRows rs = howMany (λ (r : Row). eqb 0x120000 (r .kind)) rs
 
 -- ---- the views of a row
 

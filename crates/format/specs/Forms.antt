@@ -5,25 +5,15 @@ use mathlib.Core.List.{List, [], _∷_}
 use Prim.Native.Nat.{ℕ, suc, _+_, _-_, _/_, _%_, _^_}
 use lib.Dec.{eqb, ltb, leb}
 use lib.ListN.{getD, take, drop}
-use Rattle.format.specs.Bytes.{number}
+use Rattle.format.specs.Bytes.{every, howMany, number}
 
 abbrev pub between : ℕ → ℕ → ℕ → Bool
 between lo hi n = leb lo n && leb n hi
-
--- every byte passes the test
-abbrev pub every : (ℕ → Bool) → List ℕ → Bool
-every f [] = true
-every f (b ∷ bs) = f b && every f bs
 
 -- how many bytes at the front pass the test
 abbrev pub leading : (ℕ → Bool) → List ℕ → ℕ
 leading f [] = 0
 leading f (b ∷ bs) = elim (f b) [ true ↦ suc (leading f bs) | false ↦ 0 ]
-
--- how many bytes pass the test
-abbrev pub howMany : (ℕ → Bool) → List ℕ → ℕ
-howMany f [] = 0
-howMany f (b ∷ bs) = elim (f b) as (λ x. ℕ) [ true ↦ 1 | false ↦ 0 ] + howMany f bs
 
 -- ---- characters
 

@@ -4,6 +4,7 @@
 use Prim.Native.Nat.{ℕ}
 use Rattle.format.specs.declared.Answer.{Answer}
 use Rattle.format.specs.declared.Answer.the-variants.{Accepted, Refused}
+use Rattle.format.specs.declared.Row.{Row}
 use Rattle.format.specs.declared.Where.{Where}
 use Rattle.format.specs.declared.Where.the-variants.{At, Missing}
 use Rattle.format.specs.declared.Step.{Step}
@@ -51,26 +52,24 @@ stepSecond (Record r n) = 0
 stepSecond End = 0
 stepSecond (Stopped n p) = p
 
--- the four numbers of the row
+-- the row of a step, and where there is none one of zeros
+abbrev pub rowOf : Step → Row
+rowOf (Record r n) = r
+rowOf End = record { kind = 0; offset = 0; length = 0; owner = 0 }
+rowOf (Stopped n p) = record { kind = 0; offset = 0; length = 0; owner = 0 }
+
+-- its four numbers
 unfoldable pub rowKind : Step → ℕ
-rowKind (Record r n) = r .kind
-rowKind End = 0
-rowKind (Stopped n p) = 0
+rowKind s = rowOf s .kind
 
 unfoldable pub rowOffset : Step → ℕ
-rowOffset (Record r n) = r .offset
-rowOffset End = 0
-rowOffset (Stopped n p) = 0
+rowOffset s = rowOf s .offset
 
 unfoldable pub rowLength : Step → ℕ
-rowLength (Record r n) = r .length
-rowLength End = 0
-rowLength (Stopped n p) = 0
+rowLength s = rowOf s .length
 
 unfoldable pub rowOwner : Step → ℕ
-rowOwner (Record r n) = r .owner
-rowOwner End = 0
-rowOwner (Stopped n p) = 0
+rowOwner s = rowOf s .owner
 
 -- the place of the next row
 unfoldable pub nextOf : Step → ℕ

@@ -34,8 +34,8 @@ write t (count w k ∷ l) fs = bigEndian w (length (getD fs k [])) ++ write t l 
 write t (fixed n ∷ l) fs = getD fs 0 [] ++ write t l (drop 1 fs)
 write t (counted s ∷ l) fs = getD fs 0 [] ++ write t l (drop 1 fs)
 
--- what refusal 24 tests: each field has its fixed length, or the length that its count can state and shares with the
--- other fields of that count; ns are the counts so far
+-- what refusal 24 tests: each field has its fixed length, or one that its count can state and that all fields of that count
+-- have; ns are the counts so far
 abbrev pub fits : List ℕ → List Item → Fields → Bool
 fits ns [] [] = true
 fits ns [] (f ∷ fs) = false

@@ -5,7 +5,7 @@ use mathlib.Core.Bool.{Bool, true, false}
 use mathlib.Core.List.{List, [], _∷_, _++_}
 use Prim.Native.Nat.{ℕ, _+_, _≤_}
 use lib.ListN.{length}
-use Rattle.format.specs.Bytes.{All}
+use Rattle.format.specs.Bytes.{All, howMany}
 use Rattle.format.specs.Parts.{rule, information, external, knownId, sameKind, Part, WrittenForm}
 use Rattle.format.specs.Rules.{Check, checks, Section, sectionsOf, mayBothStand, otherKind, maskCovers, has, hasRequired}
 
@@ -40,8 +40,7 @@ pub record Legal (bs : List ℕ) : Type 0 where
 
 -- the count of rules: how many sections 12
 abbrev pub ruleCount : List Part → ℕ
-ruleCount [] = 0
-ruleCount (p ∷ ps) = elim (sameKind rule (p .kind)) as (λ b. ℕ) [ true ↦ 1 | false ↦ 0 ] + ruleCount ps
+ruleCount ps = howMany (λ (p : Part). sameKind rule (p .kind)) ps
 
 -- the count of rules of a list of legal tokens: the sum over its tokens
 abbrev pub rulesOfAll : (ts : List (List ℕ)) → All Legal ts → ℕ

@@ -50,9 +50,9 @@ sectionId k = ids k .0
 abbrev pub tag : Kind → ℕ
 tag k = ids k .1
 
--- the fields after id, version and length, or tag, length and version, which are fields 0 to 2; over each kind its length
--- in 01 and the fields' numbers. That a count's second number points at the field that goes by it is computed over all kinds
--- (proofs/Layouts `layouts-sound`): beside 01 compare the number after `counted`
+-- the fields after fields 0 to 2, which `frame` below has; over each kind its length in 01 and the fields' numbers. That a
+-- count's second number points at the field that goes by it is computed over all kinds (proofs/Layouts `layouts-sound`): beside
+-- 01 compare the number after `counted`
 abbrev pub body : Kind → List Item
 -- 11, length 16+x+y: 3 reserved, 4 x, 5 modulus bits, 6 y, 7 exponent, 8 modulus, 9 flags
 body publicKey = zeros 2 10 ∷ count 2 1 ∷ fixed 2 ∷ count 2 1 ∷ counted 0 ∷ counted 1 ∷ fixed 4 ∷ []
@@ -116,8 +116,7 @@ pub record Part : Type 0 where
   pub kind : Kind
   pub fields : Fields
 
--- the bytes that the part itself takes, without its subsections (the 0 stands for its length field, which is as long
--- whatever it holds)
+-- the bytes that the part itself takes, without its subsections (whatever its length field holds, here 0)
 abbrev pub size : Part → ℕ
 size p = length (write 0 (layout (p .kind)) (p .fields))
 
@@ -139,8 +138,7 @@ writeParts (p ∷ ps) = write (span p ps) (layout (p .kind)) (p .fields) ++ writ
 abbrev pub written : ℕ → List Part → List ℕ
 written i ps = write (8 + length (writeParts ps)) header ((i ∷ []) ∷ []) ++ writeParts ps
 
--- what refusal 25 tests: each subsection follows a section of its own id, o being the id of the section before (after a
--- subsection the same), 0 where there is none
+-- what refusal 25 tests: each subsection follows a section of its own id; o is the id of the section before, 0 for none
 abbrev pub joins : ℕ → List Part → Bool
 joins o [] = true
 joins o (p ∷ ps) =

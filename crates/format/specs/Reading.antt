@@ -1,30 +1,28 @@
--- The answer for any bytes: the first fault in 01's order, or the sections that were read, with their rows counted. One definition serves a token
--- and a draft, which is read under all rules but those of refusal 20. It may be read from the end: `answer`, `reading`,
--- `sections`, `section`. That it accepts the legal tokens and no other is proved (Main `accepted-exactly-when-legal`):
--- beside 01 compare the numbers, their order and their places.
+-- The answer for any bytes: the first fault in 01's order, or the sections that were read, with their rows counted. One
+-- definition serves a token and a draft, which is read under all rules but those of refusal 20. It may be read from the end:
+-- `answer`, `reading`, `sections`, `section`. That it accepts the legal tokens and no other is proved (Main
+-- `accepted-exactly-when-legal`): beside 01 compare the numbers, their order and their places.
 -- Beside 01: numbers 1 to 21, "Order", the first sentences of "Writer".
 --
--- 01's order, and where it stands. Header 1 to 5: `headerChecks`. Section: 6 (four bytes), 7 in `section`; 8, 6 (length),
--- 9 (kind), 15, fields, 9 (Rule ID) in `sectionChecks`; subsections in `sectionRest`; 18, 20 in `afterSubsections`; the
--- missing section 14 in `sections`. Subsection: 12 (four bytes), 13 in `subsection`; 12 (length), 14, 8, 12 (inner),
--- fields in `subsectionChecks`.
+-- Where 01's order stands. Header: `headerChecks`. Section: 6 (four bytes), 7 in `section`; 8, 6 (length), 9 (kind), 15, fields,
+-- 9 (Rule ID) in `sectionChecks`; subsections in `sectionRest`; 18, 20 in `afterSubsections`; the missing section 14 in
+-- `sections`. Subsection: 12 (four bytes), 13 in `subsection`; 12 (length), 14, 8, 12 (inner), fields in `subsectionChecks`.
 --
--- `check f q b` (Rules): the test b of field f, with refusal q. `fault q p f`: refusal q at place p, field f. No answer
--- shows the field. The names that recur:
+-- The names that recur:
 -- full    a token is read, and no draft
 -- x       it is external
 -- at      the place of the part
--- r       the bytes from there to the end of the token or draft, past the part too
+-- r       the bytes from there on, past the part too
 -- n       the bytes that are left of the section
 -- before  what was read before
--- d       the turns, always enough: the clause without a turn is never reached (Main `every-refusal`)
+-- d       turns, always enough: the clause without one is never reached (Main `every-refusal`)
 use mathlib.Core.Bool.{Bool, true, false, not, _&&_, _||_}
 use mathlib.Core.List.{List, [], _∷_, _++_}
 use mathlib.Core.Option.{Option, none, some}
 use Prim.Native.Nat.{ℕ, zero, suc, _+_, _-_}
 use lib.Dec.{eqb, leb}
 use lib.ListN.{length, take, drop}
-use Rattle.format.specs.Bytes.{number, bytesAt, allZero}
+use Rattle.format.specs.Bytes.{any, number, bytesAt, allZero}
 use Rattle.format.specs.Layout.{code, zeros, own, count, fixed, counted}
 use Rattle.format.specs.Slots.{least, Slot, slots, slotBytes, fieldsIn, endOf}
 use Rattle.format.specs.Parts.{Kind, kinds, rule, information, tokenParameters, sectionId, tag, body, isSubsection, layout}
@@ -33,8 +31,8 @@ use Rattle.format.specs.Rules.{Check, check, checks, Section, has, sameR
 use Rattle.format.specs.declared.Answer.{Answer}
 use Rattle.format.specs.declared.Answer.the-variants.{Accepted, Refused}
 
--- a refusal: its number; the start of the part at fault, 0 for the header, or where 01 says so another number (the
--- token's or the draft's length, the rows needed); and the number of the field tested, which no answer shows
+-- a refusal: its number; the start of the part at fault, 0 for the header, or the number that 01 names in its stead; and the
+-- field tested, which no answer shows
 pub record Fault : Type 0 where
   pub number : ℕ
   pub part : ℕ
@@ -52,12 +50,12 @@ pub data Outcome (A : Type 0) : Type 0 where
   refused : Fault → Outcome A
   found : A → Outcome A
 
--- a test that passes goes on to the rest, and one that fails refuses
+-- a test: where it fails the refusal, else the rest
 unfoldable pub need : {A : Type 0} → Bool → Fault → Outcome A → Outcome A
 need true f rest = rest
 need false f rest = refused f
 
--- what is found is handed on, and a refusal goes straight out
+-- a refusal goes straight out, what is found is handed on
 unfoldable pub andThen : {A B : Type 0} → Outcome A → (A → Outcome B) → Outcome B
 andThen (refused f) next = refused f
 andThen (found a) next = next a
@@ -77,23 +75,23 @@ sectionKind i = firstKind (λ k. not (isSubsection k) && eqb (sectionId k) i) ki
 abbrev pub subsectionKind : Kind → ℕ → Option Kind
 subsectionKind o g = firstKind (λ k. isSubsection k && (eqb (sectionId k) (sectionId o) && eqb (tag k) g)) kinds
 
--- the length of how a section or a subsection begins
+-- the length of id, version and length, or of tag, length and version
 abbrev pub frameLength : Kind → ℕ
 frameLength k = elim (isSubsection k) [ false ↦ 4 | true ↦ 5 ]
 
--- the id byte at the front of a token or a section
+-- the id of a token or a section
 abbrev pub idOf : List ℕ → ℕ
 idOf r = number (bytesAt r 0 1)
 
--- the length that a token, a section or a subsection states in its bytes 2 and 3
+-- the length that a token, a section or a subsection states
 abbrev pub stated : List ℕ → ℕ
 stated r = number (bytesAt r 2 2)
 
--- the slots of a kind's fields after its frame, in bytes that begin with the part
+-- the slots of the fields after them, in bytes that begin with the part
 abbrev pub bodySlots : Kind → List ℕ → List Slot
 bodySlots k r = slots [] (body k) r (frameLength k)
 
--- the length that the part's own fields make, subsections not counted: 20 in section 12, 10 in section 14
+-- the length that the part's own fields make: 20 in section 12, 10 in section 14
 abbrev pub madeLength : Kind → List ℕ → ℕ
 madeLength k r = endOf (frameLength k) (bodySlots k r)
 
@@ -101,7 +99,7 @@ madeLength k r = endOf (frameLength k) (bodySlots k r)
 abbrev pub partIn : Kind → List ℕ → Part
 partIn k r = record { kind = k; fields = fieldsIn r (bodySlots k r) }
 
--- the tests of those slots whose bytes are always 0; the first slot is that of field number j
+-- the tests of what is always 0; the first slot is that of field j
 abbrev pub zeroChecks : ℕ → List ℕ → List Slot → List Check
 zeroChecks j r [] = []
 zeroChecks j r (s ∷ ss) =
@@ -115,21 +113,19 @@ zeroChecks j r (s ∷ ss) =
       | counted c ↦ rest
     ]
 
--- the tests of the part's fields, x for an external token: first what is always 0, then the rules. That the former stands
--- before the chosen fields, and that the fields tested rise but for the modulus before the exponent, is computed over all kinds
--- (proofs/Layouts `layouts-sound`)
+-- the tests of the part's fields: what is always 0, then the rules. That these tests are in rising offset, but for the modulus
+-- before the exponent, is computed over all kinds (proofs/Layouts `layouts-sound`)
 abbrev pub fieldChecks : Bool → Kind → List ℕ → List Check
 fieldChecks x k r = zeroChecks 3 r (bodySlots k r) ++ checks x k (partIn k r .fields)
 
--- the tests one after another, for the part at this place
+-- the tests one after another
 unfoldable pub tested : {A : Type 0} → ℕ → List Check → Outcome A → Outcome A
 tested at [] rest = rest
 tested at (c ∷ cs) rest = need (c .holds) (fault (c .refusal) at (c .field)) (tested at cs rest)
 
 -- ---- subsections
 
--- the tests of a subsection of kind k, in order: its length in the n bytes that are left of the section; its tag, where
--- `seen` says that it stands before; its version; its inner lengths; its fields
+-- the tests of a subsection of kind k, in order: length, tag (`seen`: it stands before), version, inner lengths, fields
 abbrev pub subsectionChecks : Bool → Kind → Bool → ℕ → List ℕ → List Check
 subsectionChecks x k seen n r =
     check 1 12 (leb (least (layout k)) (stated r) && leb (stated r) n)
@@ -138,7 +134,7 @@ subsectionChecks x k seen n r =
     ∷ check 1 12 (eqb (madeLength k r) (stated r))
     ∷ fieldChecks x k r
 
--- the subsection at the front of r, in a section of kind o; `before` are the section's earlier ones
+-- the subsection at the front of r, in a section of kind o
 unfoldable pub subsection : Bool → Kind → List Part → ℕ → ℕ → List ℕ → Outcome Part
 subsection x o before at n r =
     need (leb 4 n) (fault 12 at 0)
@@ -147,7 +143,7 @@ subsection x o before at n r =
       | some k ↦ tested at (subsectionChecks x k (has k before) n r) (found (partIn k r))
     ])
 
--- the subsections that tile the next n bytes, after the earlier ones; d turns are enough where d is more than n
+-- the subsections that tile the next n bytes, after the earlier ones
 unfoldable pub subsections : ℕ → Bool → Kind → List Part → ℕ → ℕ → List ℕ → Outcome (List Part)
 subsections zero x o before at n r = refused (fault 0 at 0)
 subsections (suc d) x o before at zero r = found before
@@ -163,16 +159,14 @@ holdsSubs k = sameKind rule k || sameKind information k
 
 -- a section of the kind stands before
 abbrev pub kindBefore : Kind → List Section → Bool
-kindBefore k [] = false
-kindBefore k (s ∷ ss) = sameKind k (s .head .kind) || kindBefore k ss
+kindBefore k ss = any (λ (s : Section). sameKind k (s .head .kind)) ss
 
 -- a rule with the same Rule ID stands before
 abbrev pub ruleBefore : Part → List Section → Bool
-ruleBefore p [] = false
-ruleBefore p (s ∷ ss) = (sameKind rule (s .head .kind) && sameRuleId p (s .head)) || ruleBefore p ss
+ruleBefore p ss = any (λ (s : Section). sameKind rule (s .head .kind) && sameRuleId p (s .head)) ss
 
--- the tests of a section of kind k, in order: its version; its length; its kind, where `seen` says that it stands before;
--- its inner lengths; its fields; its Rule ID, where `repeated` says that a rule before has the same
+-- the tests of a section of kind k, in order: version, length, kind (`seen`: it stands before), inner lengths, fields, Rule ID
+-- (`repeated`: a rule before has the same)
 abbrev pub sectionChecks : Bool → Kind → Bool → Bool → List ℕ → List Check
 sectionChecks x k seen repeated r =
     check 1 8 (allZero (bytesAt r 1 1))
@@ -182,26 +176,26 @@ sectionChecks x k seen repeated r =
     ∷ fieldChecks x k r
     ++ (check 3 9 (not (sameKind rule k && repeated)) ∷ [])
 
--- the place of the first subsection of the kind, where the subsections begin at this place
+-- the place of the first subsection of the kind, the subsections beginning at this place
 abbrev pub placeOf : Kind → ℕ → List Part → ℕ
 placeOf k at [] = at
 placeOf k at (p ∷ ps) = elim (sameKind k (p .kind)) [ true ↦ at | false ↦ placeOf k (at + size p) ps ]
 
--- the end of a section whose subsections begin at place `first`: 0005 against 0003, then what is required
+-- the end of a section, its subsections beginning at `first`: 0005 against 0003, then what is required
 unfoldable pub afterSubsections : Bool → ℕ → ℕ → Section → Outcome Section
 afterSubsections full at first s =
     need (maskCovers (s .subs)) (fault 18 (placeOf tokenParameters first (s .subs)) 5)
     (need (not full || hasRequired s) (fault 20 at 0) (found s))
 
--- the subsections of the section of kind k at the front of r, and its end: they begin after its own fields, m bytes; in
--- sections 11, 13 and 15 that is the end (refusal 15), and there are none
+-- the subsections of the section of kind k at the front of r, after its m bytes of own fields, and its end; sections 11, 13
+-- and 15 end there (refusal 15) and have none
 unfoldable pub sectionRest : Bool → Bool → Kind → ℕ → List ℕ → Outcome Section
 sectionRest full x k at r =
     let m = madeLength k r in
     andThen (subsections (suc (stated r)) x k [] (at + m) (stated r - m) (drop m r))
     (λ ps. afterSubsections full at (at + m) (record { head = partIn k r; subs = ps }))
 
--- the section at the front of r; `before` are the token's earlier sections
+-- the section at the front of r
 unfoldable pub section : Bool → Bool → List Section → ℕ → List ℕ → Outcome Section
 section full x before at r =
     need (leb 4 (length r)) (fault 6 at 0)
@@ -210,8 +204,7 @@ section full x before at r =
       | some k ↦ tested at (sectionChecks x k (kindBefore k before) (ruleBefore (partIn k r) before) r) (sectionRest full x k at r)
     ])
 
--- the sections that tile r, after the earlier ones; d turns are enough where d is more than its length.
--- The missing section 14 comes last
+-- the sections that tile r, after the earlier ones; the missing section 14 comes last
 unfoldable pub sections : ℕ → Bool → Bool → List Section → ℕ → List ℕ → Outcome (List Section)
 sections zero full x before at r = refused (fault 0 at 0)
 sections (suc d) full x before at [] = need (not full || kindBefore information before) (fault 20 at 0) (found before)
@@ -221,8 +214,7 @@ sections (suc d) full x before at (b ∷ bs) =
 
 -- ---- the token and the draft
 
--- refusal 4: a token has at most 3,500 bytes and its header states how many; a draft's states 8 to 3,500, and no more than there
--- are
+-- refusal 4: a token's header states its length, at most 3,500; a draft's states 8 to 3,500, and no more than there is
 abbrev pub lengthAllowed : Bool → List ℕ → Bool
 lengthAllowed true bs = leb (length bs) 3500 && eqb (stated bs) (length bs)
 lengthAllowed false bs = leb 8 (stated bs) && leb (stated bs) 3500 && leb (stated bs) (length bs)
@@ -248,11 +240,11 @@ abbrev pub partsOf : List Section → List Part
 partsOf [] = []
 partsOf (s ∷ ss) = s .head ∷ s .subs ++ partsOf ss
 
--- how many rows the sections make: one for each part
+-- the rows that they make, one for each part
 abbrev pub rowCount : List Section → ℕ
 rowCount ss = length (partsOf ss)
 
--- an outcome as number and second number: the place of the refusal, or what is counted of what was found
+-- an outcome as an answer: the number and place of the refusal, or what is counted of what was found
 unfoldable pub asAnswer : {A : Type 0} → (A → ℕ) → Outcome A → Answer
 asAnswer second (refused f) = Refused (f .number) (place f)
 asAnswer second (found a) = Accepted (second a)

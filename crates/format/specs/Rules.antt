@@ -1,20 +1,19 @@
--- The rules beyond the layout, each a named condition on the parts; and the values that 01 allows in its "Layouts":
--- `keyFlags`, `zeroOrOne`, `zeroToTwo`, `mkvpAllowed`. A rule on a part's own fields is a `Check`, with the field that is
--- tested and the refusal; the rules between parts follow.
+-- The rules beyond the layout, each a named condition: first those on a part's own fields, each a `Check` with the refusal, then
+-- those between parts.
 -- Beside 01: "Rules beyond the layout", and for flags, key-check, asymmetric format and MKVP "Layouts".
 use mathlib.Core.Bool.{Bool, true, false, not, _&&_, _||_}
 use mathlib.Core.List.{List, [], _∷_}
 use Prim.Native.Nat.{ℕ}
 use lib.Dec.{eqb, leb}
 use lib.ListN.{length, getD}
-use Rattle.format.specs.Bytes.{number, allZero, sameBytes}
+use Rattle.format.specs.Bytes.{every, any, number, allZero, sameBytes}
 use Rattle.format.specs.Layout.{Fields}
 use Rattle.format.specs.Parts.{Kind, publicKey, rule, transportVariant, transportRule, exportParameters, sourceRule, tokenParameters}
 use Rattle.format.specs.Parts.{name, information, protection, dates, applicationData, isSubsection, sameKind, Part}
 use Rattle.format.specs.Forms.{between, ruleIdForm, labelForm, dateExists, inOrder, keyLength, fewestBytes, modulusForm, exponentForm}
 
--- a rule on a field: the number of the field tested, the refusal, and whether the rule is kept: `check 6 16 b` is field 6,
--- refusal 16. No answer shows the field's number: beside 01 compare the refusal, the condition and the order
+-- a rule on a field: the field's number, the refusal, and whether the rule is kept: `check 6 16 b` is field 6, refusal 16. No
+-- answer shows the field: beside 01 compare the refusal, the condition and the order
 pub record Check : Type 0 where
   pub field : ℕ
   pub refusal : ℕ
@@ -23,7 +22,7 @@ pub record Check : Type 0 where
 abbrev pub check : ℕ → ℕ → Bool → Check
 check f n b = record { field = f; refusal = n; holds = b }
 
--- ---- the conditions on the fields of one part, in the order of 01's "Layouts"
+-- ---- the conditions on the fields of one part, in 01's order
 
 -- x is 1 to 512
 abbrev pub exponentLength : List ℕ → Bool
@@ -69,9 +68,8 @@ labelLength f = eqb (length f) 0 || eqb (length f) 64
 abbrev pub mkvpAllowed : Bool → List ℕ → Bool
 mkvpAllowed x f = not x || allZero f
 
--- the rules on the fields of a kind, in the order in which they are tested; x says that the token is external. f are the
--- chosen fields, named by `let` or over the kind, from 0; a check has the field's number in the layout (Parts `body`). A rule
--- on 01's x, y, c, m or z is one on the length of the field it counts, of m on that of the mask
+-- the rules on the chosen fields f of a kind, in the order in which they are tested; x: the token is external. A rule on 01's
+-- x, y, c, m or z is one on the length of the field that it counts, for m the mask
 abbrev pub checks : Bool → Kind → Fields → List Check
 checks x publicKey f =
     let bits = number (getD f 0 []) in
@@ -154,8 +152,7 @@ abbrev pub frontSubs : List Part → List Part
 frontSubs [] = []
 frontSubs (p ∷ ps) = elim (isSubsection (p .kind)) [ true ↦ p ∷ frontSubs ps | false ↦ [] ]
 
--- the sections of a list of parts, each with the subsections that follow it; by `joins` (Parts) none stands before the
--- first section
+-- the sections of a list of parts, each with the subsections that follow it (by `joins` none stands before the first section)
 abbrev pub sectionsOf : List Part → List Section
 sectionsOf [] = []
 sectionsOf (p ∷ ps) =
@@ -166,18 +163,12 @@ sectionsOf (p ∷ ps) =
 
 -- a part of the kind is among these
 abbrev pub has : Kind → List Part → Bool
-has k [] = false
-has k (p ∷ ps) = sameKind k (p .kind) || has k ps
+has k ps = any (λ (p : Part). sameKind k (p .kind)) ps
 
 -- the parts of the kind among these
 abbrev pub ofKind : Kind → List Part → List Part
 ofKind k [] = []
 ofKind k (p ∷ ps) = elim (sameKind k (p .kind)) [ true ↦ p ∷ ofKind k ps | false ↦ ofKind k ps ]
-
--- each of the parts passes the test
-abbrev pub each : (Part → Bool) → List Part → Bool
-each f [] = true
-each f (p ∷ ps) = f p && each f ps
 
 abbrev pub sameRuleId : Part → Part → Bool
 sameRuleId p q = sameBytes (getD (p .fields) 0 []) (getD (q .fields) 0 [])
@@ -192,14 +183,14 @@ mayBothStand s t =
 abbrev pub otherKind : Part → Part → Bool
 otherKind p q = not (sameKind (p .kind) (q .kind))
 
--- if m is not 0 and the rule has a 0003, m is at least its minimum; p is a 0005, its chosen field 0 the mask, of m bytes; q
--- a 0003, its chosen field 0 the minimum; as tags do not repeat, there is at most one of each
+-- if m is not 0 and the rule has a 0003, m is at least its minimum; p is the 0005, its chosen field 0 the mask, of m bytes; q
+-- the 0003, its chosen field 0 the minimum
 abbrev pub maskCovers : List Part → Bool
 maskCovers subs =
-    each
+    every
     (λ (p : Part).
     let m = length (getD (p .fields) 0 []) in
-    eqb m 0 || each (λ (q : Part). leb (number (getD (q .fields) 0 [])) m) (ofKind exportParameters subs))
+    eqb m 0 || every (λ (q : Part). leb (number (getD (q .fields) 0 [])) m) (ofKind exportParameters subs))
     (ofKind tokenParameters subs)
 
 -- an export rule has a 0003, and section 14 its 0001; chosen field 1 of a rule is its flags

@@ -47,9 +47,8 @@ finish d = asAnswer (λ ss. stated d) (andThen (reading false d) (λ ss. reading
 
 -- ---- the values of each addition as the fields of its kind
 
--- The calls of these five kinds take numbers, each in a type as wide as its field, so that `bigEndian` cuts nothing off.
--- Those of the other seven take bytes alone, in 01's order: 12/0001 variant; 12/0002, 12/0004 Rule ID; 12/0005 mask,
--- template, label template; 13 name; 14/0001 encrypted MAC key, MAC, MKVP; 15 data
+-- The calls of these five kinds take numbers, each in a type as wide as its field; those of the other seven take bytes alone,
+-- in 01's order
 
 abbrev pub publicKeyFields : ℕ → List ℕ → List ℕ → ℕ → Fields
 publicKeyFields bits exponent modulus flags = bigEndian 2 bits ∷ exponent ∷ modulus ∷ bigEndian 4 flags ∷ []

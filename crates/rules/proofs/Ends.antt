@@ -6,9 +6,9 @@ use Prim.Native.Nat.{ℕ, zero, suc, _+_, _-_, _<_, _≤_}
 use native.Mathlib.Omega.{arith}
 use lib.Dec.{eqb, leb}
 use lib.ListN.{length, getD, drop}
-use Rattle.format.specs.Bytes.{number, bytesAt}
+use Rattle.format.specs.Bytes.{every, number, bytesAt}
 use Rattle.format.specs.Parts.{rule, exportParameters, tokenParameters, Part}
-use Rattle.format.specs.Rules.{has, ofKind, each, maskCovers, hasRequired}
+use Rattle.format.specs.Rules.{has, ofKind, maskCovers, hasRequired}
 use Rattle.format.specs.Reading.{found, fault, need, asAnswer, stated, placeOf, afterSubsections, sectionRest}
 use Rattle.format.specs.declared.Answer.the-variants.{Accepted, Refused}
 use Rattle.format.proofs.Tests.{then-found}
@@ -22,21 +22,21 @@ use Rattle.rules.proofs.Places.{here-one, standing-none}
 -- ---- 0005 against 0003
 
 -- Where each part passes a test, all do.
-each-part : (f : Part → Bool) → ((p : Part) → f p ≡ true) → (us : List Part) → each f us ≡ true
-each-part f h [] = refl
-each-part f h (u ∷ us) = ap₂ (λ (a b : Bool). a && b) (h u) (each-part f h us)
+every-part : (f : Part → Bool) → ((p : Part) → f p ≡ true) → (us : List Part) → every f us ≡ true
+every-part f h [] = refl
+every-part f h (u ∷ us) = ap₂ (λ (a b : Bool). a && b) (h u) (every-part f h us)
 
 -- Where no 0003 is, every mask will do.
 pub mask-free : (us : List Part) → ofKind exportParameters us ≡ [] → maskCovers us ≡ true
 mask-free us e =
-    ap (λ (l : List Part). each (λ (p : Part). eqb (length (getD (p .fields) 0 [])) 0 || each (λ (q : Part). leb (number (getD (q .fields) 0 [])) (length (getD (p .fields) 0 []))) l) (ofKind tokenParameters us)) e
-    ∙ each-part _ (λ p. or-true (eqb (length (getD (p .fields) 0 [])) 0)) (ofKind tokenParameters us)
+    ap (λ (l : List Part). every (λ (p : Part). eqb (length (getD (p .fields) 0 [])) 0 || every (λ (q : Part). leb (number (getD (q .fields) 0 [])) (length (getD (p .fields) 0 []))) l) (ofKind tokenParameters us)) e
+    ∙ every-part _ (λ p. or-true (eqb (length (getD (p .fields) 0 [])) 0)) (ofKind tokenParameters us)
 
 -- With one of each, the mask is none or as long as the minimum.
 pub mask-both : (us : List Part) (u v : Part) {k m : ℕ} → ofKind exportParameters us ≡ u ∷ [] → ofKind tokenParameters us ≡ v ∷ []
     → number (getD (u .fields) 0 []) ≡ k → length (getD (v .fields) 0 []) ≡ m → maskCovers us ≡ (eqb m 0 || leb k m)
 mask-both us u v e f a b =
-    ap₂ (λ (l o : List Part). each (λ (p : Part). eqb (length (getD (p .fields) 0 [])) 0 || each (λ (q : Part). leb (number (getD (q .fields) 0 [])) (length (getD (p .fields) 0 []))) l) o) e f
+    ap₂ (λ (l o : List Part). every (λ (p : Part). eqb (length (getD (p .fields) 0 [])) 0 || every (λ (q : Part). leb (number (getD (q .fields) 0 [])) (length (getD (p .fields) 0 []))) l) o) e f
     ∙ and-true _
     ∙ ap (λ (c : Bool). eqb (length (getD (v .fields) 0 [])) 0 || c) (and-true _)
     ∙ ap₂ (λ (i j : ℕ). eqb j 0 || leb i j) a b

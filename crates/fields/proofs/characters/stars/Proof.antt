@@ -7,8 +7,8 @@ use Prim.Native.Nat.{_+_, _-_, _≤_}
 use mathlib.Core.Logic.{⊎-elim}
 use mathlib.Core.Bool.{true, false}
 use mathlib.Core.Path.{_≡_, sym, _∙_}
-use Rattle.format.specs.Forms.{howMany, star}
-use Rattle.format.specs.Bytes.{bytesAt}
+use Rattle.format.specs.Forms.{star}
+use Rattle.format.specs.Bytes.{howMany, bytesAt}
 use Rattle.fields.specs.Classes.{classOf}
 use Rattle.fields.proofs.Runs.{count-more, count-same, count-done}
 use Rattle.fields.proofs.Classes.{star-class}
