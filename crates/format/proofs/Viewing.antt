@@ -8,12 +8,12 @@ use Prim.Native.Nat.{ℕ, zero, suc, _+_, _≤_, _<_}
 use native.Mathlib.Omega.{arith}
 use lib.ListN.{length, take, drop, getElem?, length-append, drop-of-length-le}
 use lib.Seq.{drop-drop, drop-at}
-use Rattle.format.specs.Bytes.{Bytes, number, bytesAt}
+use Rattle.format.specs.Bytes.{Bytes, bytesAt}
 use Rattle.format.specs.Layout.{write}
 use Rattle.format.specs.Slots.{Slot, slotBytes, fieldsIn, endOf}
 use Rattle.format.specs.Parts.{layout, Part, writeParts, external}
 use Rattle.format.specs.Rules.{Section, sectionsOf}
-use Rattle.format.specs.Legal.{Legal, joined}
+use Rattle.format.specs.Legal.{Legal}
 use Rattle.format.specs.Reading.{Fault, refused, found, reading, partsOf}
 use Rattle.format.specs.Table.{Placed, placed}
 use Rattle.format.specs.Views.{slotOf, fieldAt, bytesThere, view, whetherThere, viewAnswer}

@@ -1,7 +1,7 @@
 -- The legal tokens: the written forms of the choices that keep every rule.
 -- Beside 01: "Rules beyond the layout".
 use mathlib.Core.Path.{_≡_}
-use mathlib.Core.Bool.{Bool, true, false}
+use mathlib.Core.Bool.{Bool, true}
 use mathlib.Core.List.{List, [], _∷_, _++_}
 use Prim.Native.Nat.{ℕ, _+_, _≤_}
 use lib.ListN.{length}
