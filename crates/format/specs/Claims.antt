@@ -1,5 +1,5 @@
 -- What the theorems of proofs/Main speak of beyond the definitions of the format; each comment names those that use it.
--- Beside proofs/Main.
+-- Beside proofs/Main. `set l k x` is l with x for element k; in Main `(x : A) × B` says that there is an x with B.
 use mathlib.Core.Path.{_≡_}
 use mathlib.Core.Bool.{true, false}
 use mathlib.Core.List.{List, [], _∷_, _++_}

@@ -66,7 +66,7 @@ labelForm bs =
 
 -- ---- dates
 
--- every fourth year but the hundredths, and the four-hundredths; year 0 by the same rule
+-- every fourth year, but of the hundredths only the four-hundredths; year 0 by the same rule
 abbrev pub leapYear : ℕ → Bool
 leapYear y = eqb (y % 4) 0 && (not (eqb (y % 100) 0) || eqb (y % 400) 0)
 

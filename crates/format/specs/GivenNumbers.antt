@@ -1,4 +1,5 @@
--- For every case of an answer, a field's place and a step of the walk its number in 01 and the numbers beside it.
+-- For every case of an answer and of a step of the walk its number in 01 and the numbers beside it; a field's place has the
+-- number of its answer (Views `whetherThere`), and here its offset and length.
 -- Beside 01: "Where an answer is an enum, a definition gives this paper's number and values for every one of its cases".
 -- Where there is no row, a row's numbers are 0: so the end of the walk has kind 0, and no row has.
 use Prim.Native.Nat.{ℕ}

@@ -11,14 +11,14 @@ use Rattle.format.specs.Bytes.{bigEndian}
 -- a field of a layout, with its length in bytes
 pub data Item : Type 0 where
   code : ℕ → ℕ → Item  -- `code w v`: w bytes that hold the number v, an id or a tag
-  zeros : ℕ → ℕ → Item  -- `zeros n q`: n bytes that are always 0; q is the refusal where they are not (used in Parts `body` alone)
+  zeros : ℕ → ℕ → Item  -- `zeros n q`: n bytes that are always 0; q is the refusal where they are not (Reading looks at q in Parts `body` alone)
   own : ℕ → Item  -- `own w`: w bytes, 01's `length`, that of the whole part, in the header that of the token
   count : ℕ → ℕ → Item  -- `count w k`: w bytes, 01's x, y, n, c, m or z: the length of chosen field k of those after it, from 0
   fixed : ℕ → Item  -- `fixed n`: a chosen field of n bytes
   counted : ℕ → Item  -- `counted s`: a chosen field as long as the part's count number s states, from 0
 
--- So in section 11 x is `count 2 1`: of the chosen fields after it the bits are 0, the exponent 1; and the exponent is
--- `counted 0`, by count number 0. Writing goes by k, reading by s, `fits` by both.
+-- Section 11 has x, bits, y, exponent, modulus, flags. x is `count 2 1`: of the chosen fields after it bits is 0, exponent 1.
+-- The exponent is `counted 0`: of the counts x is 0, y is 1. Writing goes by k, reading by s, `fits` by both.
 
 -- the chosen fields of a part, in order: all but ids, tags, lengths, counts and what is always 0
 abbrev pub Fields : Type 0
@@ -35,7 +35,7 @@ write t (fixed n ∷ l) fs = getD fs 0 [] ++ write t l (drop 1 fs)
 write t (counted s ∷ l) fs = getD fs 0 [] ++ write t l (drop 1 fs)
 
 -- what refusal 24 tests: each field has its fixed length, or one that its count can state and that all fields of that count
--- have; ns are the counts so far
+-- have; no field is missing or left over, which the calls see to; ns are the counts so far
 abbrev pub fits : List ℕ → List Item → Fields → Bool
 fits ns [] [] = true
 fits ns [] (f ∷ fs) = false

@@ -1,5 +1,5 @@
 -- The twelve kinds of sections and subsections with their layouts, and the written form of an identifier and parts.
--- Beside 01: "Layouts"; for `joins` refusal 25, for `kindNumber` "Table, views, walk".
+-- Beside 01: "Layouts"; for `body` refusals 10 and 11, for `joins` 25, for `kindNumber` "Table, views, walk".
 use mathlib.Core.Path.{_≡_}
 use mathlib.Core.Bool.{Bool, true, false, not, _&&_, _||_}
 use mathlib.Core.List.{List, [], _∷_, _++_}
@@ -50,9 +50,8 @@ sectionId k = ids k .0
 abbrev pub tag : Kind → ℕ
 tag k = ids k .1
 
--- the fields after fields 0 to 2, which `frame` below has; over each kind its length in 01 and the fields' numbers. That a
--- count's second number points at the field that goes by it is computed over all kinds (proofs/Layouts `layouts-sound`): beside
--- 01 compare the number after `counted`
+-- the fields from number 3 on (0 to 2 are `frame`, below); over each kind its length in 01 and its fields' numbers. Beside 01
+-- compare w in `count w k` and s in `counted s`; that k goes with s is computed over all kinds (proofs/Layouts `layouts-sound`)
 abbrev pub body : Kind → List Item
 -- 11, length 16+x+y: 3 reserved, 4 x, 5 modulus bits, 6 y, 7 exponent, 8 modulus, 9 flags
 body publicKey = zeros 2 10 ∷ count 2 1 ∷ fixed 2 ∷ count 2 1 ∷ counted 0 ∷ counted 1 ∷ fixed 4 ∷ []

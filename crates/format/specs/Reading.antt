@@ -75,10 +75,6 @@ sectionKind i = firstKind (λ k. not (isSubsection k) && eqb (sectionId k) i) ki
 abbrev pub subsectionKind : Kind → ℕ → Option Kind
 subsectionKind o g = firstKind (λ k. isSubsection k && (eqb (sectionId k) (sectionId o) && eqb (tag k) g)) kinds
 
--- the length of id, version and length, or of tag, length and version
-abbrev pub frameLength : Kind → ℕ
-frameLength k = elim (isSubsection k) [ false ↦ 4 | true ↦ 5 ]
-
 -- the id of a token or a section
 abbrev pub idOf : List ℕ → ℕ
 idOf r = number (bytesAt r 0 1)
@@ -87,7 +83,11 @@ idOf r = number (bytesAt r 0 1)
 abbrev pub stated : List ℕ → ℕ
 stated r = number (bytesAt r 2 2)
 
--- the slots of the fields after them, in bytes that begin with the part
+-- the length of id, version and length, or of tag, length and version
+abbrev pub frameLength : Kind → ℕ
+frameLength k = elim (isSubsection k) [ false ↦ 4 | true ↦ 5 ]
+
+-- the slots of the fields after these, in bytes that begin with the part
 abbrev pub bodySlots : Kind → List ℕ → List Slot
 bodySlots k r = slots [] (body k) r (frameLength k)
 
@@ -113,7 +113,7 @@ zeroChecks j r (s ∷ ss) =
       | counted c ↦ rest
     ]
 
--- the tests of the part's fields: what is always 0, then the rules. That these tests are in rising offset, but for the modulus
+-- the tests of the part's fields: what is always 0, then the rules. That the fields' numbers rise, but for the modulus
 -- before the exponent, is computed over all kinds (proofs/Layouts `layouts-sound`)
 abbrev pub fieldChecks : Bool → Kind → List ℕ → List Check
 fieldChecks x k r = zeroChecks 3 r (bodySlots k r) ++ checks x k (partIn k r .fields)
@@ -187,8 +187,8 @@ afterSubsections full at first s =
     need (maskCovers (s .subs)) (fault 18 (placeOf tokenParameters first (s .subs)) 5)
     (need (not full || hasRequired s) (fault 20 at 0) (found s))
 
--- the subsections of the section of kind k at the front of r, after its m bytes of own fields, and its end; sections 11, 13
--- and 15 end there (refusal 15) and have none
+-- the rest of the section of kind k at the front of r: the subsections after the m bytes of its own fields, then its end. In
+-- sections 11, 13 and 15 m is the stated length (refusal 15), so there are none
 unfoldable pub sectionRest : Bool → Bool → Kind → ℕ → List ℕ → Outcome Section
 sectionRest full x k at r =
     let m = madeLength k r in

@@ -1,6 +1,6 @@
--- The rules beyond the layout, each a named condition: first those on a part's own fields, each a `Check` with the refusal, then
--- those between parts.
--- Beside 01: "Rules beyond the layout", and for flags, key-check, asymmetric format and MKVP "Layouts".
+-- The rules beyond the layout: first those on a part's own fields, each a `Check` with its refusal, then those between parts.
+-- Beside 01: "Rules beyond the layout"; for flags, key-check, asymmetric format and MKVP "Layouts"; for `checks` numbers 11, 16 to
+-- 19 and 21, and "Order".
 use mathlib.Core.Bool.{Bool, true, false, not, _&&_, _||_}
 use mathlib.Core.List.{List, [], _∷_}
 use Prim.Native.Nat.{ℕ}
@@ -76,9 +76,9 @@ checks x publicKey f =
     let exponent = getD f 1 [] in
     let modulus = getD f 2 [] in
     let flags = getD f 3 [] in
-    check 4 16 (exponentLength exponent)  -- x
+    check 4 16 (exponentLength exponent)  -- 01's x
     ∷ check 5 16 (modulusBits bits)
-    ∷ check 6 16 (fewestBytes bits (length modulus))  -- y
+    ∷ check 6 16 (fewestBytes bits (length modulus))  -- 01's y
     ∷ check 8 16 (modulusForm bits modulus)
     ∷ check 7 16 (exponentForm exponent modulus)
     ∷ check 9 11 (keyFlags flags)
@@ -109,16 +109,16 @@ checks x exportParameters f =
     check 5 18 (keyLength (number minimum))
     ∷ check 6 18 (keyLength (number maximum))
     ∷ check 6 18 (leb (number minimum) (number maximum))
-    ∷ check 7 18 (variantLength maximum variant)  -- x
-    ∷ check 9 18 (controlLength cv)  -- c
+    ∷ check 7 18 (variantLength maximum variant)  -- 01's x
+    ∷ check 9 18 (controlLength cv)  -- 01's c
     ∷ []
 -- f: 0 Rule ID
 checks x sourceRule f = check 4 17 (ruleIdForm (getD f 0 [])) ∷ []
 checks x tokenParameters f =
     let mask = getD f 0 [] in
     let label = getD f 2 [] in
-    check 5 18 (controlLength mask)  -- m
-    ∷ check 8 18 (labelLength label)  -- z
+    check 5 18 (controlLength mask)  -- 01's m
+    ∷ check 8 18 (labelLength label)  -- 01's z
     ∷ check 9 17 (eqb (length label) 0 || labelForm label)
     ∷ []
 -- f: 0 name
@@ -183,14 +183,20 @@ mayBothStand s t =
 abbrev pub otherKind : Part → Part → Bool
 otherKind p q = not (sameKind (p .kind) (q .kind))
 
--- if m is not 0 and the rule has a 0003, m is at least its minimum; p is the 0005, its chosen field 0 the mask, of m bytes; q
--- the 0003, its chosen field 0 the minimum
+-- m of a 0005: the length of its mask
+abbrev pub maskLength : Part → ℕ
+maskLength p = length (getD (p .fields) 0 [])
+
+-- the minimum of a 0003
+abbrev pub minimumOf : Part → ℕ
+minimumOf p = number (getD (p .fields) 0 [])
+
+-- if m is not 0 and the rule has a 0003, m is at least its minimum; p is the 0005, q the 0003
 abbrev pub maskCovers : List Part → Bool
 maskCovers subs =
     every
     (λ (p : Part).
-    let m = length (getD (p .fields) 0 []) in
-    eqb m 0 || every (λ (q : Part). leb (number (getD (q .fields) 0 [])) m) (ofKind exportParameters subs))
+    eqb (maskLength p) 0 || every (λ (q : Part). leb (minimumOf q) (maskLength p)) (ofKind exportParameters subs))
     (ofKind tokenParameters subs)
 
 -- an export rule has a 0003, and section 14 its 0001; chosen field 1 of a rule is its flags

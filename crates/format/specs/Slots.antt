@@ -17,7 +17,7 @@ least (count w k ∷ l) = w + least l
 least (fixed n ∷ l) = n + least l
 least (counted s ∷ l) = least l
 
--- where a field lies: its offset in the part and its length
+-- a field with where it lies: its offset in the part and its length
 pub record Slot : Type 0 where
   pub item : Item
   pub offset : ℕ

@@ -16,7 +16,7 @@ pub record Placed : Type 0 where
   pub row : Row
   pub part : Part
 
--- the rows of parts that begin at this place after n rows; o is the row of the last section
+-- the rows of parts, the first at place `at` with n rows before it; o is the row of the section passed last
 abbrev pub placed : ℕ → ℕ → ℕ → List Part → List Placed
 placed at n o [] = []
 placed at n o (p ∷ ps) =

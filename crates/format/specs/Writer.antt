@@ -1,6 +1,6 @@
 -- The writer's calls on a lent draft: start and addition come to a refusal or to the bytes that the draft then begins with;
 -- finish changes nothing and is an answer.
--- Beside 01: "Writer", 23 to 25.
+-- Beside 01: "Writer", 23 to 25. Here d is the lent draft.
 use mathlib.Core.Bool.{true, false, _&&_}
 use mathlib.Core.List.{List, [], _∷_, _++_}
 use Prim.Native.Nat.{ℕ, _+_}
