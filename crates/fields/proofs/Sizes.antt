@@ -1,6 +1,6 @@
 -- The size of the number of many bytes: its significant bits by the first byte, its parity by the last. Assumes nothing.
 use mathlib.Core.Path.{_≡_, refl, sym, ap, _∙_}
-use mathlib.Core.Bool.{Bool, false, _&&_}
+use mathlib.Core.Bool.{Bool, true, false, _&&_}
 use mathlib.Core.List.{List, [], _∷_}
 use mathlib.Core.Logic.{⊎-elim}
 use Prim.Native.Nat.{ℕ, zero, suc, _+_, _-_, _*_, _/_, _%_, _^_, _<_, _≤_}
@@ -13,6 +13,7 @@ use lib.Pow.{pow-pos, pow-add, shr-shr}
 use borrow.Author.Tests.{eq-eqb, ne-eqb, eqb-true, eqb-false, le-leb, leb-true, lt-ltb, ltb-true}
 use Rattle.format.specs.Bytes.{Bytes, number, bytesAt}
 use Rattle.format.specs.Forms.{odd, significantBits, modulusForm}
+use Rattle.format.proofs.Finding.{and-split}
 use Rattle.format.proofs.Numbers.{bytes-take, bytes-drop}
 use Rattle.fields.proofs.Lists.{bytes-all, number-first, number-below}
 use Rattle.fields.proofs.Numbers.{number-more}
@@ -119,3 +120,12 @@ module _ (s : List ℕ) (small : Bytes s) (bits : ℕ) (h : 1 ≤ bits) (e : len
   modulus-last k =
       modulus-ends
       ∙ ap (λ (x : Bool). x && eqb (getD s (length s - 1) 0 % 2) 1) (eq-eqb (getD s 0 0 / 2 ^ ((bits - 1) % 8)) 1 k)
+
+  -- its first byte is not 0
+  pub modulus-first : modulusForm bits s ≡ true → 1 ≤ getD s 0 0
+  modulus-first t =
+      let v = getD s 0 0 in
+      let m = 2 ^ ((bits - 1) % 8) in
+      let one = eqb-true (v / m) 1 (and-split (eqb (v / m) 1) (eqb (getD s (length s - 1) 0 % 2) 1) (sym modulus-ends ∙ t) .0) in
+      let q : v / m * m ≡ m = ap (λ (k : ℕ). k * m) one ∙ one-mul m in
+      omega (arith, div-add-mod' v m, q, pow-pos ((bits - 1) % 8))

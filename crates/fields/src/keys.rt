@@ -2,7 +2,7 @@
 ghost use mathlib.Core.Path.{_≡_};
 ghost use Prim.Native.Nat.{_+_, _/_, _≤_};
 ghost use lib.Dec.{ltb};
-ghost use lib.ListN.{length};
+ghost use lib.ListN.{length, getD};
 ghost use Rattle.format.specs.Bytes.{number};
 ghost use Rattle.format.specs.Forms.{keyLength, modulusForm, exponentForm};
 use crate::all_zero;
@@ -49,24 +49,21 @@ fn less(a: &[u8], b: &[u8]) -> bool
     false
 }
 
-// The exponent is odd, and less than the modulus. What the longer of the two has in front must be 0, or decides.
+// The exponent is odd, and less than the modulus, whose first byte is not 0: a shorter exponent is less, and of a longer one
+// what it has in front must be 0.
 pub fn exponent_form(exponent: &[u8], modulus: &[u8]) -> bool
-    requires { ⌜ 1 ≤ length (now exponent) ⌝ }
+    requires { ⌜ (1 ≤ length (now exponent)) × (1 ≤ getD (now modulus) 0 0) ⌝ }
     ensures { λ r. ⌜ r ≡ exponentForm (now (exponent .entry)) (now (modulus .entry)) ⌝ }
 {
     if exponent[exponent.len() - 1] % 2 != 1 {
         return false;
     }
-    if modulus.len() < exponent.len() {
-        let d = exponent.len() - modulus.len();
-        if all_zero(exponent, 0, d) {
-            return less(&exponent[d..], modulus);
-        }
-        return false;
+    if exponent.len() < modulus.len() {
+        return true;
     }
-    let d = modulus.len() - exponent.len();
-    if all_zero(modulus, 0, d) {
-        return less(exponent, &modulus[d..]);
+    let d = exponent.len() - modulus.len();
+    if all_zero(exponent, 0, d) {
+        return less(&exponent[d..], modulus);
     }
-    true
+    false
 }

@@ -1,6 +1,8 @@
 -- The rules on the fields of a public key, one after another.
 use mathlib.Core.Path.{sym, _∙_}
+use native.Mathlib.Omega.{arith}
 use borrow.Author.Tests.{not-true, not-false}
+use Rattle.fields.proofs.Sizes.{bytes-of, modulus-first}
 use Rattle.sections.proofs.Laws.{stop, pass, none}
 use Rattle.sections.proofs.KeyLaws.{x-yes, x-low, x-high, bits-yes, bits-low, bits-high, y-yes, y-not, modulus-is, flag-yes, flag-not}
 use borrow.Author.Needs.{needs}
@@ -63,7 +65,13 @@ returns-6 c =
     (stop _ _ (modulus-is b q m (c .before .modulus-form .ensures) ∙ not-true _ (c .if6 .taken)))))
 
 exponent-form-requires : tie.Need-exponent-form-requires
-exponent-form-requires c κs = search needs
+exponent-form-requires c κs =
+    let m = c .before .before .before .before .before .before .before .before .before .args .modulus .now in
+    let h = c .before .before .before .before .if3 .left in (
+      omega (arith, c .before .before .before .before .before .before .if1 .left),
+      modulus-first m (bytes-of m (λ k. (c .before .before .before .before .before .before .before .shared-slice-known2 .given k) .fits)) (c .before .before .before .before .before .before .before .before .before .args .bits) (omega arith) (c .before .before .if5 .left)
+          (sym (c .before .modulus-form .ensures) ∙ not-false _ (c .if6 .left)),
+    )
 
 returns-7 : tie.Need-returns-7
 returns-7 c =
