@@ -1,4 +1,4 @@
--- An addition that reads the longer draft first is the addition of the definition. Assumes nothing.
+-- An addition of a subsection that reads the longer draft first is the addition of the definition. Assumes nothing.
 use mathlib.Core.Path.{_≡_, refl, sym, ap, _∙_, subst}
 use mathlib.Core.Bool.{Bool, true, false}
 use mathlib.Core.List.{List, [], _∷_}
@@ -32,8 +32,6 @@ use Rattle.drafts.proofs.Additions.{last-behind, id-known}
 use Rattle.added_subsections.specs.LastSection.{holdsSubsections, fixedFields}
 use Rattle.added_subsections.proofs.SubsectionFronts.{sub-front, last-bytes}
 use Rattle.added_subsections.proofs.FixedFields.{head-fixed, holds-small}
-
--- ---- a subsection
 
 -- The last section that is read is the one that the walk found.
 last-place : (d : List ℕ) (ss : List Section) (o : ℕ) → Bytes d → reading false d ≡ found ss → LastAt (take (stated d) d) 8 o → lastPlace 0 8 ss ≡ o

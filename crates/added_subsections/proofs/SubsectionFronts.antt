@@ -1,5 +1,5 @@
--- The same for a subsection: where the longer draft reads, and the draft's sections and the subsections of its last one
--- end where it does, the draft reads. Assumes nothing.
+-- Where the draft with a subsection after it reads, and the draft's sections and the subsections of its last one end where it
+-- does, the draft reads. Assumes nothing.
 use mathlib.Core.Path.{_≡_, sym, ap, ap₂, _∙_, subst}
 use mathlib.Core.Bool.{Bool, true, false}
 use mathlib.Core.List.{List, [], _∷_, _++_, append-assoc, append-nil}

@@ -1,5 +1,5 @@
--- Where the longer draft reads, or is refused at the draft's end or after it, and the draft's sections end where it does, the
--- draft reads. Assumes nothing.
+-- Where the draft with a section after it reads, or is refused at the draft's end or after it, and the draft's sections end
+-- where it does, the draft reads. Assumes nothing.
 use mathlib.Core.Path.{_≡_, refl, sym, ap, ap₂, _∙_, subst}
 use mathlib.Core.Bool.{Bool, true, false}
 use mathlib.Core.List.{List, [], _∷_, _++_, append-assoc, append-nil}
