@@ -8,7 +8,8 @@
 -- statements       x ≡ y, x < y, x ≤ y; P × Q both; Unit {0} always; (x : A) → B for every x
 -- tests            eqb =, ltb <, leb ≤; &&, ||, not; `t ≡ true` states a test
 -- data, record     `data` lists the forms of its values; a `record` has all its lines, and as a statement asks for all of
---                  them; `r .f` is its field. `(a, b)` is a pair, of type A × B, `p .0` and `p .1` its parts
+--                  them, for data (in `Legal`) that there are such; `record { f = a; .. }` is a value, `r .f` its field.
+--                  `(a, b)` is a pair, of type A × B, `p .0` and `p .1` its parts
 -- lists            [] empty; x ∷ xs; ++ joins; take n l, drop n l the first n, the rest; getD l k d element k, from 0, or d;
 --                  getElem? l k `some` of it or `none`; replicate n x; map f l
 -- numbers          suc n is n + 1; a difference stops at 0; / drops the remainder, which is %; ^ is power

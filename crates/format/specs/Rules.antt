@@ -191,7 +191,7 @@ maskLength p = length (getD (p .fields) 0 [])
 abbrev pub minimumOf : Part → ℕ
 minimumOf p = number (getD (p .fields) 0 [])
 
--- if m is not 0 and the rule has a 0003, m is at least its minimum; p is the 0005, q the 0003
+-- if m is not 0 and the rule has a 0003, m is at least its minimum; p is the 0005, q the 0003, each at most one
 abbrev pub maskCovers : List Part → Bool
 maskCovers subs =
     every
