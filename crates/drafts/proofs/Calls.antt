@@ -14,7 +14,6 @@ use Rattle.format.specs.Writer.{writeAnswer, draftAfter}
 use Rattle.format.specs.declared.Answer.{Answer}
 use Rattle.format.specs.declared.Answer.the-variants.{Accepted, Refused}
 use Rattle.format.proofs.Tests.{tests-passed, needed, followed, then-found, then-refused, Hold}
-use Rattle.format.proofs.Accepted.{allowed}
 use Rattle.format.proofs.Finding.{and-split}
 use Rattle.contents.proofs.Headers.{lengths}
 use Rattle.draft_parts.specs.Tiling.{Reads}
@@ -24,25 +23,21 @@ use Rattle.drafts.specs.Adding.{refusedAfter, ownFirst, unfit}
 
 -- ---- the draft's own reading
 
--- An accepted answer: the draft reads,
+-- An accepted answer: the draft reads.
 pub reads : {n : ℕ} (d : List ℕ) → Accepted n ≡ asAnswer rowCount (reading false d) → Reads d
 reads d a = told-found rowCount (reading false d) a
 
--- and its bytes are there.
-pub header-stands : (d : List ℕ) → Reads d → Standing d 0
-unfolding reading
-header-stands d r =
-    let c = tests-passed 0 (headerChecks false d) _ (r .0) (r .1) .0 in
-    let a = allowed false d (leb-true 8 (length d) (c .0)) (c .1 .1 .1 .0) in
-    let e = a .eight in
-    record { least = e; most = a .most; there = a .ends; head = omega arith; ends = omega arith; apart = inl refl }
-
--- So they are where its header passes its tests.
+-- Where its header passes its tests, its bytes are there,
 pub header-standing : (d : List ℕ) → Hold (headerChecks false d) → Standing d 0
 header-standing d h =
     let l = lengths false d h in
     let a = l .least in
     record { least = a; most = l .most; there = l .within; head = omega arith; ends = omega arith; apart = inl refl }
+
+-- and so where it reads.
+pub header-stands : (d : List ℕ) → Reads d → Standing d 0
+unfolding reading
+header-stands d r = header-standing d (tests-passed 0 (headerChecks false d) _ (r .0) (r .1) .0)
 
 -- The draft's own fault is the answer of every call, and the draft is as it was.
 pub fault-first : {n p : ℕ} (d : List ℕ) (next : List Section → Outcome (List ℕ)) → Refused n p ≡ asAnswer rowCount (reading false d)
