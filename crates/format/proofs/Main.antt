@@ -19,7 +19,7 @@ use Rattle.format.specs.Table.{Placed, placed, rows, columns, tableOf, t
 use Rattle.format.specs.Views.{view, viewAnswer, stepAt}
 use Rattle.format.specs.GivenNumbers.{numberOf}
 use Rattle.format.specs.Writer.{draftAfter, start, addition, finish}
-use Rattle.format.specs.Claims.{IsRow, Tiles, subsOf, ruleRows, slotsOf, viewsFrom, walk, walkPlace, additions, restate, sectionsEnd}
+use Rattle.format.specs.Claims.{IsRow, Tiles, subsOf, ruleRows, slotsOf, chosenViews, viewsFrom, walk, walkPlace, additions, restate, sectionsEnd}
 use Rattle.format.specs.Examples.{tokenT, Holds, starred}
 use Rattle.format.specs.declared.Answer.the-variants.{Accepted, Refused}
 use Rattle.format.specs.declared.Step.the-variants.{End, Stopped}
@@ -152,6 +152,11 @@ pub row-gives-its-fields : (bs : List ℕ) (l : Legal bs) (k : ℕ) (x : Placed)
     → fieldsIn (drop (x .row .offset) bs) (slotsOf bs x) ≡ x .part .fields
 row-gives-its-fields bs l k x r = Viewing.cut-row bs l k x r
 
+-- So the fields of that part are the views of the row's chosen fields, in their order.
+pub fields-are-views : (bs : List ℕ) (l : Legal bs) (k : ℕ) (x : Placed) → IsRow bs l k x
+    → x .part .fields ≡ chosenViews bs k 0 (layout (x .part .kind))
+fields-are-views bs l k x r = Viewing.fields-viewed bs l k x r
+
 -- The views of all fields of a row, laid end to end, are its part's own bytes: nothing overlaps or is left over.
 pub views-tile-the-row : (bs : List ℕ) (l : Legal bs) (k : ℕ) (x : Placed) → IsRow bs l k x
     → viewsFrom bs k 0 (length (layout (x .part .kind))) ≡ write (x .row .length) (layout (x .part .kind)) (x .part .fields)
@@ -233,13 +238,13 @@ then-24-25-23 p d ss e =
     (Refusing.lengths-first (p .kind) (p .fields) d ss e, Refusing.joining-next (p .kind) (p .fields) d ss e, Refusing.room-last (p .kind) (p .fields) d ss e)
 
 -- "Adding the parts of any legal token in their order, to a draft newly started with its identifier and with room, gives
--- back its very bytes."
+-- back its very bytes", and leaves what stood after them.
 pub legal-token-rebuilt : (bs : List ℕ) (l : Legal bs) (d : List ℕ) → length bs ≤ length d
     → (start (l .id) d ≡ found (written (l .id) []))
     × ((e : List ℕ)
     × (additions (l .parts) (draftAfter (found (written (l .id) [])) d) ≡ found e)
     × (finish e ≡ Accepted (length bs))
-    × (take (length bs) e ≡ bs))
+    × (e ≡ bs ++ drop (length bs) d))
 legal-token-rebuilt bs l d h = Writing.rebuilt bs l d h
 
 -- The calls of five kinds take numbers (Writer `ruleFields` and its like): any field is the bytes of the number that it

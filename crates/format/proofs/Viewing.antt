@@ -2,15 +2,16 @@
 -- token.
 use mathlib.Core.Path.{_≡_, refl, sym, ap, ap₂, _∙_}
 use mathlib.Core.Bool.{true}
-use mathlib.Core.List.{List, [], _++_}
+use mathlib.Core.List.{List, [], _∷_, _++_}
 use mathlib.Core.Option.{Option, none, some}
 use Prim.Native.Nat.{ℕ, zero, suc, _+_, _≤_, _<_}
 use native.Mathlib.Omega.{arith}
-use lib.ListN.{length, take, drop, getElem?, length-append, drop-of-length-le}
+use native.Mathlib.Nat.{zero-add, add-zero}
+use lib.ListN.{length, getD, take, drop, getElem?, length-append, drop-of-length-le}
 use lib.Seq.{drop-drop, drop-at}
-use Rattle.format.specs.Bytes.{Bytes, bytesAt}
-use Rattle.format.specs.Layout.{write}
-use Rattle.format.specs.Slots.{Slot, slotBytes, fieldsIn, endOf}
+use Rattle.format.specs.Bytes.{Bytes, number, bytesAt}
+use Rattle.format.specs.Layout.{Item, code, zeros, own, count, fixed, counted, Fields, write}
+use Rattle.format.specs.Slots.{Slot, slots, slotBytes, fieldsIn, endOf}
 use Rattle.format.specs.Parts.{layout, Part, writeParts, external}
 use Rattle.format.specs.Rules.{Section, sectionsOf}
 use Rattle.format.specs.Legal.{Legal}
@@ -30,7 +31,7 @@ use Rattle.format.proofs.Elements.{there, nowhere}
 use Rattle.format.proofs.Cutting.{slot-count, slotted, slots-contiguous, slots-tile, slots-inside}
 use Rattle.format.proofs.Rows.{placed-count}
 use Rattle.format.proofs.Tiling.{row-of, row-inside}
-use Rattle.format.specs.Claims.{IsRow, slotsOf, viewsFrom}
+use Rattle.format.specs.Claims.{IsRow, slotsOf, chosenViews, viewsFrom}
 
 -- ---- where a field lies
 
@@ -127,6 +128,44 @@ view-field bs l k j x e h =
     let t = there (slotsOf bs x) j (omega arith) in
     let v = view-slot bs l k j x (t .0) e (t .1) in
     (t .0, t .1, v .0, v .1)
+
+-- The views of the numbers from j on are the bytes of these slots, one after another.
+abbrev Viewed : List ℕ → ℕ → List ℕ → ℕ → List Slot → Type 0
+Viewed bs k r j [] = Unit {0}
+Viewed bs k r j (s ∷ ss) = (view bs k j ≡ slotBytes r s) × Viewed bs k r (suc j) ss
+
+viewed : (bs : List ℕ) (k : ℕ) (r : List ℕ) (j : ℕ) (ss : List Slot)
+    → ((m : ℕ) (s : Slot) → getElem? ss m ≡ some s → view bs k (j + m) ≡ slotBytes r s) → Viewed bs k r j ss
+viewed bs k r j [] h = tt
+viewed bs k r j (s ∷ ss) h = (
+  ap (view bs k) (sym (add-zero j)) ∙ h 0 s refl,
+  viewed bs k r (suc j) ss
+      (λ m q g. let e : suc j + m ≡ j + suc m = omega arith in ap (view bs k) e ∙ h (suc m) q g),
+)
+
+-- The chosen fields that lie in such slots are the views of their numbers.
+chosen-views : (bs : List ℕ) (k : ℕ) (ns : List ℕ) (l : List Item) (r : List ℕ) (o j : ℕ) → Viewed bs k r j (slots ns l r o)
+    → fieldsIn r (slots ns l r o) ≡ chosenViews bs k j l
+chosen-views bs k ns [] r o j h = refl
+chosen-views bs k ns (code w v ∷ l) r o j h = chosen-views bs k ns l r (o + w) (suc j) (h .1)
+chosen-views bs k ns (zeros n q ∷ l) r o j h = chosen-views bs k ns l r (o + n) (suc j) (h .1)
+chosen-views bs k ns (own w ∷ l) r o j h = chosen-views bs k ns l r (o + w) (suc j) (h .1)
+chosen-views bs k ns (count w c ∷ l) r o j h =
+    chosen-views bs k (ns ++ (number (bytesAt r o w) ∷ [])) l r (o + w) (suc j) (h .1)
+chosen-views bs k ns (fixed n ∷ l) r o j h =
+    ap₂ (λ (f : List ℕ) (fs : Fields). f ∷ fs) (sym (h .0)) (chosen-views bs k ns l r (o + n) (suc j) (h .1))
+chosen-views bs k ns (counted s ∷ l) r o j h =
+    ap₂ (λ (f : List ℕ) (fs : Fields). f ∷ fs) (sym (h .0)) (chosen-views bs k ns l r (o + getD ns s 0) (suc j) (h .1))
+
+-- The fields of a row's part are the views of its chosen fields.
+pub fields-viewed : (bs : List ℕ) (l : Legal bs) (k : ℕ) (x : Placed) → IsRow bs l k x
+    → x .part .fields ≡ chosenViews bs k 0 (layout (x .part .kind))
+fields-viewed bs l k x e =
+    let r : List ℕ = drop (x .row .offset) bs in
+    sym (cut-row bs l k x e)
+    ∙ chosen-views bs k [] (layout (x .part .kind)) r 0 0
+    (viewed bs k r 0 (slotsOf bs x)
+    (λ m s g. view-slot bs l k (0 + m) x s e (ap (getElem? (slotsOf bs x)) (zero-add m) ∙ g) .0))
 
 -- A place that is missing has no bytes, and the partner question gives its refusal.
 missing : (bs : List ℕ) (k j n p : ℕ) → fieldAt bs k j ≡ Missing n p

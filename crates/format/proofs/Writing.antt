@@ -4,11 +4,11 @@ use mathlib.Core.Path.{_≡_, refl, sym, ap, ap₂, _∙_, subst}
 use mathlib.Core.Bool.{true, false, not, _||_}
 use mathlib.Core.List.{List, [], _∷_, _++_, append-assoc, append-nil}
 use mathlib.Core.Logic.{_↔_}
-use Prim.Native.Nat.{ℕ, _+_, _^_, _≤_, _<_}
+use Prim.Native.Nat.{ℕ, _+_, _-_, _^_, _≤_, _<_}
 use native.Mathlib.Omega.{arith}
 use lib.Dec.{leb, lit≤}
-use lib.ListN.{length, take, drop, length-append, length-drop}
-use lib.Seq.{take-at, take-all}
+use lib.ListN.{length, take, drop, length-append, length-drop, take-append-drop}
+use lib.Seq.{take-at, take-all, drop-drop, drop-append-seam}
 use borrow.Author.Tests.{le-leb}
 use Rattle.format.specs.Bytes.{All, Bytes}
 use Rattle.format.specs.Layout.{fits}
@@ -181,12 +181,25 @@ after-length bs d h =
     let m = length-drop (length bs) d in
     omega arith
 
--- The parts of a lawful choice are all added, in their order, where there is room.
+-- What stands after the new bytes is as it was, from any place there on.
+after-kept : (bs d : List ℕ) (n : ℕ) → length bs ≤ n → drop n (draftAfter (found bs) d) ≡ drop n d
+after-kept bs d n h =
+    let e : n ≡ length bs + (n - length bs) = omega arith in
+    ap (λ (m : ℕ). drop m (draftAfter (found bs) d)) e
+    ∙ sym (drop-drop (n - length bs) (length bs) (draftAfter (found bs) d))
+    ∙ ap (drop (n - length bs)) (drop-append-seam bs (drop (length bs) d))
+    ∙ drop-drop (n - length bs) (length bs) d
+    ∙ ap (λ (m : ℕ). drop m d) (sym e)
+
+-- The parts of a lawful choice are all added, in their order, where there is room, and what stands after them is as it was.
 run-adds : (qs : List Part) (i : ℕ) (ps : List Part) (d : List ℕ) → Draft i ps d → Choice i (ps ++ qs) → Lawful i (ps ++ qs)
     → length (written i (ps ++ qs)) ≤ 3500 → length (written i (ps ++ qs)) ≤ length d
-    → (e : List ℕ) × (additions qs d ≡ found e) × (length e ≡ length d)
+    → (e : List ℕ)
+    × (additions qs d ≡ found e)
+    × (length e ≡ length d)
+    × (drop (length (written i (ps ++ qs))) e ≡ drop (length (written i (ps ++ qs))) d)
 unfolding additions
-run-adds [] i ps d w c l h k = (d, refl, refl)
+run-adds [] i ps d w c l h k = (d, refl, refl, refl)
 run-adds (q ∷ qs) i ps d w c l h k =
     let a : ps ++ q ∷ qs ≡ (ps ++ q ∷ []) ++ qs = sym (append-assoc ps (q ∷ []) qs) in
     let c′ : Choice i ((ps ++ q ∷ []) ++ qs) = rw a at c in
@@ -201,7 +214,9 @@ run-adds (q ∷ qs) i ps d w c l h k =
     let al = after-length bs d (omega arith) in
     let w₁ = draft-of i (ps ++ q ∷ []) (draftAfter (found bs) d) (drop (length bs) d) c₁ l₁ (omega arith) refl in
     let r = run-adds qs i (ps ++ q ∷ []) (draftAfter (found bs) d) w₁ c′ l′ h′ (omega arith) in
-    (r .0, then-found _ t ∙ r .1, r .2 ∙ al)
+    let n : ℕ = length (written i ((ps ++ q ∷ []) ++ qs)) in
+    let kept : drop n (r .0) ≡ drop n d = r .3 ∙ after-kept bs d n (omega arith) in
+    (r .0, then-found _ t ∙ r .1, r .2 ∙ al, subst (λ (y : List Part). drop (length (written i y)) (r .0) ≡ drop (length (written i y)) d) (sym a) kept)
 
 -- ---- finishing
 
@@ -233,13 +248,13 @@ finish-exactly i ps d w n =
     )
 
 -- The parts of a legal token, added in their order to a draft newly started with its identifier and with room, are each
--- accepted; the draft finishes and begins with the very bytes of the token.
+-- accepted; the draft finishes, begins with the very bytes of the token, and holds what it held after them.
 pub rebuilt : (bs : List ℕ) (l : Legal bs) (d : List ℕ) → length bs ≤ length d
     → (start (l .id) d ≡ found (written (l .id) []))
     × ((e : List ℕ)
     × (additions (l .parts) (draftAfter (found (written (l .id) [])) d) ≡ found e)
     × (finish e ≡ Accepted (length bs))
-    × (take (length bs) e ≡ bs))
+    × (e ≡ bs ++ drop (length bs) d))
 unfolding start
 rebuilt bs l d h =
     let i : ℕ = l .id in
@@ -257,12 +272,16 @@ rebuilt bs l d h =
     let al = after-length (written i []) d (let z : 8 ≤ length d = omega arith in z) in
     let r = run-adds ps i [] d₁ w₁ c (l .lawful) (omega arith) (omega arith) in
     let w = run-read ps i [] d₁ (r .0) w₁ (c .bytes) (r .1) in
-    let n = draft-header i ps (r .0) w .1 in (
+    let n = draft-header i ps (r .0) w .1 in
+    let front : take (length bs) (r .0) ≡ bs = ap (λ (m : ℕ). take m (r .0)) (sym (n ∙ lb)) ∙ draft-front i ps (r .0) w ∙ same in
+    let rest : drop (length bs) (r .0) ≡ drop (length bs) d =
+    subst (λ (m : ℕ). drop m (r .0) ≡ drop m d₁) lb (r .3)
+    ∙ after-kept (written i []) d (length bs) (let z : 8 ≤ length bs = omega arith in z) in (
       s,
       (
         r .0,
         r .1,
         finish-exactly i ps (r .0) w (length bs) .1 (subst Legal (sym same) l, sym lb),
-        ap (λ (m : ℕ). take m (r .0)) (sym (n ∙ lb)) ∙ draft-front i ps (r .0) w ∙ same,
+        sym (take-append-drop (length bs) (r .0)) ∙ ap₂ (λ (y z : List ℕ). y ++ z) front rest,
       ),
     )

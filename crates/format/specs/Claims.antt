@@ -8,6 +8,7 @@ use Prim.Native.Nat.{ℕ, zero, suc, _+_, _/_, _%_}
 use lib.Dec.{eqb}
 use lib.ListN.{length, drop, set, getElem?}
 use Rattle.format.specs.Bytes.{howMany}
+use Rattle.format.specs.Layout.{Item, code, zeros, own, count, fixed, counted, Fields}
 use Rattle.format.specs.Slots.{Slot, slots}
 use Rattle.format.specs.Parts.{Part, isSubsection, layout, size, writeParts}
 use Rattle.format.specs.Rules.{Section, frontSubs}
@@ -22,7 +23,7 @@ use Rattle.format.specs.declared.Step.the-variants.{Record, End, Stopped
 -- ---- rows
 
 -- Row number k of the token is x. In `row-bytes`, `view-of-a-field`, `row-gives-its-fields`, `views-tile-the-row`,
--- `no-such-field`, `no-row-begins-there`.
+-- `fields-are-views`, `no-such-field`, `no-row-begins-there`.
 abbrev pub IsRow : (bs : List ℕ) → Legal bs → ℕ → Placed → Type 0
 IsRow bs l k x = getElem? (placed 8 0 0 (l .parts)) k ≡ some x
 
@@ -46,6 +47,16 @@ ruleRows rs = howMany (λ (r : Row). eqb 0x120000 (r .kind)) rs
 -- The slots of a row in the token, its offset the first. In `view-of-a-field`, `row-gives-its-fields`.
 abbrev pub slotsOf : List ℕ → Placed → List Slot
 slotsOf bs x = slots [] (layout (x .part .kind)) (drop (x .row .offset) bs) 0
+
+-- The views of a row's chosen fields, l being its layout from field number j on. In `fields-are-views`.
+abbrev pub chosenViews : List ℕ → ℕ → ℕ → List Item → Fields
+chosenViews bs k j [] = []
+chosenViews bs k j (code w v ∷ l) = chosenViews bs k (suc j) l
+chosenViews bs k j (zeros n q ∷ l) = chosenViews bs k (suc j) l
+chosenViews bs k j (own w ∷ l) = chosenViews bs k (suc j) l
+chosenViews bs k j (count w c ∷ l) = chosenViews bs k (suc j) l
+chosenViews bs k j (fixed n ∷ l) = view bs k j ∷ chosenViews bs k (suc j) l
+chosenViews bs k j (counted s ∷ l) = view bs k j ∷ chosenViews bs k (suc j) l
 
 -- The views of a row's fields from number j on, n of them, laid end to end. In `views-tile-the-row`.
 abbrev pub viewsFrom : List ℕ → ℕ → ℕ → ℕ → List ℕ

@@ -4,32 +4,9 @@ ghost use lib.ListN.{length};
 use format::Answer;
 use format::Row;
 use libc::STDIN_FILENO;
-use libc::STDOUT_FILENO;
-use listing::first_line;
-use listing::row_line;
+use list_output::write_first;
+use list_output::write_row;
 use reading::read_table;
-
-// Writes the first line.
-fn write_first(id: u8, length: u32, answer: Answer) {
-    let mut line = [0u8; 96];
-    let a = first_line(&mut line, id, length, answer);
-    let Answer::Accepted(n) = a else {
-        return;
-    };
-    let end = n as usize;
-    io::write_all(STDOUT_FILENO, &line[..end]);
-}
-
-// Writes the line of a row.
-fn write_row(place: u32, row: Row) {
-    let mut line = [0u8; 96];
-    let a = row_line(&mut line, place, row);
-    let Answer::Accepted(n) = a else {
-        return;
-    };
-    let end = n as usize;
-    io::write_all(STDOUT_FILENO, &line[..end]);
-}
 
 // Writes the line of row n of a table.
 fn write_nth(table: &[u32; 1200], n: usize) {

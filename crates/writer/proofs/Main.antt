@@ -1,7 +1,7 @@
 -- What a run of calls makes of a draft, by the contracts of the calls alone. Assumes nothing.
 use mathlib.Core.Path.{_≡_, refl, sym, ap, _∙_, subst}
 use mathlib.Core.List.{List, []}
-use Prim.Native.Nat.{ℕ, _≤_, _<_}
+use Prim.Native.Nat.{ℕ, _<_}
 use native.Mathlib.Omega.{arith}
 use lib.ListN.{length, take}
 use Rattle.format.specs.Bytes.{All, Bytes}
@@ -9,10 +9,9 @@ use Rattle.format.specs.Parts.{Part, written, WrittenForm}
 use Rattle.format.specs.Legal.{Legal}
 use Rattle.format.specs.Reading.{Outcome, found}
 use Rattle.format.specs.Writer.{draftAfter, start, addition, finish}
-use Rattle.format.specs.declared.Answer.{Answer}
 use Rattle.format.specs.declared.Answer.the-variants.{Accepted, Refused}
 use Rattle.format.specs.Claims.{additions}
-use Rattle.format.proofs.Tests.{refused-not, found-inj, followed, then-found}
+use Rattle.format.proofs.Tests.{then-found}
 use Rattle.format.proofs.Grouping.{stateable}
 use Rattle.format.proofs.Unique as Unique
 use Rattle.format.proofs.Writing as Writing
@@ -45,19 +44,6 @@ run-adds (Runs.refused {p} {ps} {qs} {d} {x} {e} {m} {q} c r) =
     let s = refused-same (addition (p .kind) (p .fields) d) d m q x c in
     ap (additions qs) (sym s) ∙ run-adds r
 
--- Where the definition adds all parts, every call of the run is accepted and makes what the definition makes.
-adds-called : {ps qs : List Part} {d e : List ℕ} → Run ps qs d e → (z : List ℕ) → additions ps d ≡ found z → e ≡ z
-unfolding additions
-adds-called done z a = found-inj a
-adds-called (added {p} {ps} {qs} {d} {x} {e} {n} c r) z a =
-    let f = followed (addition (p .kind) (p .fields) d) _ z a in
-    let g : x ≡ draftAfter (found (f .0)) d = c .draft ∙ ap (λ (o : Outcome (List ℕ)). draftAfter o d) (f .1) in
-    adds-called r z (ap (additions ps) g ∙ f .2)
-adds-called (Runs.refused {p} {ps} {qs} {d} {x} {e} {m} {q} c r) z a =
-    let f = followed (addition (p .kind) (p .fields) d) _ z a in
-    let t = told-refused length (addition (p .kind) (p .fields) d) (c .answer) in
-    absurd (refused-not (sym (t .is) ∙ f .1))
-
 -- "What the writer finishes, its draft touched by nothing else since the start, is a legal token whose parts are the ones
 -- added, in that order": of an accepted start, any additions and an accepted finish; a refused addition adds nothing.
 pub finished-is-legal : (i : ℕ) (ps qs : List Part) (d x e : List ℕ) (m n : ℕ) → i < 256 → All (λ (p : Part). All Bytes (p .fields)) qs
@@ -77,13 +63,3 @@ finished-is-legal i ps qs d x e m n h b s r f =
     let form : WrittenForm i qs (take n e) = record { choice = w .choice; parts = stateable qs (omega arith); whole = omega arith; same = same } in
     let one = Unique.one-choice (legal .id) i (legal .parts) qs (take n e) (legal .form) form in
     (legal, (one .0, one .1))
-
--- "Adding the parts of any legal token in their order, to a draft newly started with its identifier and with room, gives
--- back its very bytes": whatever the calls answer, by their contracts.
-pub rebuilt-by-calls : (bs : List ℕ) (l : Legal bs) (qs : List Part) (d x e : List ℕ) (r : Answer) → length bs ≤ length d
-    → Call (start (l .id) d) d r x → Run (l .parts) qs x e → (finish e ≡ Accepted (length bs)) × (take (length bs) e ≡ bs)
-rebuilt-by-calls bs l qs d x e r h s c =
-    let t = Writing.rebuilt bs l d h in
-    let started : x ≡ draftAfter (found (written (l .id) [])) d = s .draft ∙ ap (λ (q : Outcome (List ℕ)). draftAfter q d) (t .0) in
-    let same : e ≡ t .1 .0 = adds-called c (t .1 .0) (ap (additions (l .parts)) started ∙ t .1 .1) in
-    (ap finish same ∙ t .1 .2, ap (take (length bs)) same ∙ t .1 .3)

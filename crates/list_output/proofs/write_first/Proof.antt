@@ -4,8 +4,8 @@ use native.Mathlib.Omega.{arith}
 use lib.Seq.{length-take-le}
 use Rattle.listing.proofs.Main.{length-answered}
 use borrow.Author.Needs.{needs}
-use Rattle.list_token.proofs.write_first.Statement.{statement}
-use Rattle.list_token.proofs.write_first.Tie as tie
+use Rattle.list_output.proofs.write_first.Statement.{statement}
+use Rattle.list_output.proofs.write_first.Tie as tie
 
 slice-aggregate-first-line : tie.Need-slice-aggregate-first-line
 slice-aggregate-first-line c = search needs

@@ -4,8 +4,8 @@ use native.Mathlib.Omega.{arith}
 use lib.Seq.{length-take-le}
 use Rattle.listing.proofs.Main.{length-answered}
 use borrow.Author.Needs.{needs}
-use Rattle.list_token.proofs.write_row.Statement.{statement}
-use Rattle.list_token.proofs.write_row.Tie as tie
+use Rattle.list_output.proofs.write_row.Statement.{statement}
+use Rattle.list_output.proofs.write_row.Tie as tie
 
 slice-aggregate-row-line : tie.Need-slice-aggregate-row-line
 slice-aggregate-row-line c = search needs

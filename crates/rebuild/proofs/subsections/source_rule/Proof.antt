@@ -1,0 +1,23 @@
+-- The fields that are lent are the row's views.
+use Rattle.format.specs.Parts.{sourceRule}
+use Rattle.rebuild.proofs.Laws.{same-added}
+use borrow.Author.Needs.{needs}
+use Rattle.rebuild.proofs.subsections.source_rule.Statement.{statement}
+use Rattle.rebuild.proofs.subsections.source_rule.Tie as tie
+
+view-requires : tie.Need-view-requires
+view-requires c κs = search needs
+
+source-rule-requires : tie.Need-source-rule-requires
+source-rule-requires c κs = search needs
+
+same-length : tie.Need-same-length
+same-length c = search needs
+
+returns : tie.Need-returns
+returns c =
+    same-added _ sourceRule _ _ (c .before .before .source-rule .ensures)
+    (cc (c .before .before .before .before .view .ensures))
+
+pub source-rule-spec : {M : Type 1} → statement M
+source-rule-spec = tie.close (tie.spec view-requires source-rule-requires same-length returns)

@@ -1,0 +1,69 @@
+// The addition of a row that is a section, its fields taken from their views.
+// All contracts here are one but for the kind: the answer and the draft are those of an addition of the row's views.
+ghost use mathlib.Core.Path.{_≡_};
+ghost use Rattle.format.specs.Parts as Parts;
+ghost use Rattle.format.specs.Writer.{writeAnswer, draftAfter, addition};
+ghost use Rattle.rebuild.specs.Rows.{RowOfKind, viewsOf};
+use crate::numbers::four_of;
+use crate::numbers::one_of;
+use crate::numbers::two_of;
+use format::Answer;
+use lookup::view;
+
+// Section 11.
+pub(crate) fn public_key(token: &[u8], row: u32, draft: &mut [u8]) -> Answer
+    requires { ⌜ RowOfKind (now token) row Parts.publicKey ⌝ }
+    ensures answer { λ r. ⌜ r ≡ writeAnswer (addition Parts.publicKey (viewsOf (now (token .entry)) row Parts.publicKey) (now (draft .entry))) ⌝ }
+    ensures draft { λ _. ⌜ now (draft .exit) ≡ draftAfter (addition Parts.publicKey (viewsOf (now (token .entry)) row Parts.publicKey) (now (draft .entry))) (now (draft .entry)) ⌝ }
+{
+    let bits = two_of(token, row, 5);
+    let exponent = view(token, row, 7);
+    let modulus = view(token, row, 8);
+    let flags = four_of(token, row, 9);
+    long_section_writer::public_key(draft, bits, exponent, modulus, flags)
+}
+
+// Section 12.
+pub(crate) fn rule(token: &[u8], row: u32, draft: &mut [u8]) -> Answer
+    requires { ⌜ RowOfKind (now token) row Parts.rule ⌝ }
+    ensures answer { λ r. ⌜ r ≡ writeAnswer (addition Parts.rule (viewsOf (now (token .entry)) row Parts.rule) (now (draft .entry))) ⌝ }
+    ensures draft { λ _. ⌜ now (draft .exit) ≡ draftAfter (addition Parts.rule (viewsOf (now (token .entry)) row Parts.rule) (now (draft .entry))) (now (draft .entry)) ⌝ }
+{
+    let id = view(token, row, 3);
+    let flags = four_of(token, row, 4);
+    let generated = one_of(token, row, 5);
+    let check = one_of(token, row, 6);
+    let symmetric = one_of(token, row, 7);
+    let asymmetric = one_of(token, row, 8);
+    section_writer::rule(draft, id, flags, generated, check, symmetric, asymmetric)
+}
+
+// Section 13.
+pub(crate) fn name(token: &[u8], row: u32, draft: &mut [u8]) -> Answer
+    requires { ⌜ RowOfKind (now token) row Parts.name ⌝ }
+    ensures answer { λ r. ⌜ r ≡ writeAnswer (addition Parts.name (viewsOf (now (token .entry)) row Parts.name) (now (draft .entry))) ⌝ }
+    ensures draft { λ _. ⌜ now (draft .exit) ≡ draftAfter (addition Parts.name (viewsOf (now (token .entry)) row Parts.name) (now (draft .entry))) (now (draft .entry)) ⌝ }
+{
+    let name = view(token, row, 3);
+    section_writer::name(draft, name)
+}
+
+// Section 14.
+pub(crate) fn information(token: &[u8], row: u32, draft: &mut [u8]) -> Answer
+    requires { ⌜ RowOfKind (now token) row Parts.information ⌝ }
+    ensures answer { λ r. ⌜ r ≡ writeAnswer (addition Parts.information (viewsOf (now (token .entry)) row Parts.information) (now (draft .entry))) ⌝ }
+    ensures draft { λ _. ⌜ now (draft .exit) ≡ draftAfter (addition Parts.information (viewsOf (now (token .entry)) row Parts.information) (now (draft .entry))) (now (draft .entry)) ⌝ }
+{
+    let flags = four_of(token, row, 4);
+    section_writer::information(draft, flags)
+}
+
+// Section 15.
+pub(crate) fn application_data(token: &[u8], row: u32, draft: &mut [u8]) -> Answer
+    requires { ⌜ RowOfKind (now token) row Parts.applicationData ⌝ }
+    ensures answer { λ r. ⌜ r ≡ writeAnswer (addition Parts.applicationData (viewsOf (now (token .entry)) row Parts.applicationData) (now (draft .entry))) ⌝ }
+    ensures draft { λ _. ⌜ now (draft .exit) ≡ draftAfter (addition Parts.applicationData (viewsOf (now (token .entry)) row Parts.applicationData) (now (draft .entry))) (now (draft .entry)) ⌝ }
+{
+    let data = view(token, row, 4);
+    long_section_writer::application_data(draft, data)
+}
