@@ -1,28 +1,32 @@
 -- What finishing says of any lent draft: refused by its own fault or with 20, accepted only where it is a legal token.
 use mathlib.Core.Path.{_≡_, refl, sym, ap, ap₂, _∙_, subst}
-use mathlib.Core.Bool.{Bool, true, false}
-use mathlib.Core.List.{List, [], _∷_, _++_, append-nil}
-use mathlib.Core.Logic.{_⊎_, inl, inr}
+use mathlib.Core.Bool.{Bool, true, false, _&&_}
+use mathlib.Core.List.{List, [], _∷_, _++_, append-assoc, append-nil}
+use mathlib.Core.Logic.{_↔_, _⊎_, inl, inr}
 use mathlib.Core.Option.{Option, none, some}
 use Prim.Native.Nat.{ℕ, zero, suc, _+_, _-_}
 use native.Mathlib.Omega.{arith}
 use lib.Dec.{leb}
-use lib.ListN.{length, take, drop}
+use lib.ListN.{length, take, drop, length-append, length-drop}
 use lib.Seq.{take-all, length-take-le}
 use borrow.Author.Tests.{eq-eqb, le-leb}
-use Rattle.format.specs.Bytes.{Bytes}
-use Rattle.format.specs.Parts.{Kind, information, Part, written, external, knownId}
+use Rattle.format.specs.Bytes.{All, every, Bytes}
+use Rattle.format.specs.Parts.{Kind, information, Part, writeParts, written, external, knownId}
 use Rattle.format.specs.Reading.{sectionKind}
-use Rattle.format.specs.Rules.{Section, maskCovers, hasRequired}
-use Rattle.format.specs.Legal.{Legal}
+use Rattle.format.specs.Rules.{Section, sectionsOf, maskCovers, hasRequired}
+use Rattle.format.specs.Legal.{Complete, Legal}
 use Rattle.format.specs.Reading.{Fault, fault, Outcome, refused, found, need, andThen, tested, idOf, stated, madeLength, partIn, subsections}
 use Rattle.format.specs.Reading.{kindBefore, ruleBefore, sectionChecks, afterSubsections, sectionRest, section, sections, headerChecks, reading, partsOf, asAnswer}
 use Rattle.format.specs.Writer.{finish}
+use Rattle.format.specs.Claims.{lackingAt}
 use Rattle.format.specs.declared.Answer.the-variants.{Accepted, Refused}
-use Rattle.format.proofs.Finding.{and-join}
-use Rattle.format.proofs.Numbers.{bytes-take}
-use Rattle.format.proofs.Tests.{Hold, refused-not, found-inj, needed, need-passed, followed, then-found, tests-passed, tests-lead}
+use Rattle.format.proofs.Finding.{and-split, and-join}
+use Rattle.format.proofs.Numbers.{bytes-take, bytes-drop}
+use Rattle.format.proofs.Tests.{Hold, refused-not, found-inj, needed, need-passed, need-failed, followed, then-found, then-refused, tests-passed, tests-lead}
+use Rattle.format.proofs.Grouping.{group-flat}
+use Rattle.format.proofs.Sound.{SectionRead, section-read}
 use Rattle.format.proofs.Header.{header-read}
+use Rattle.format.proofs.Flat.{grouped, flat-has, has-section}
 use Rattle.format.proofs.Accepted.{reading-sound, read-legal}
 use Rattle.format.proofs.Writing.{draft-front, draft-header, told-accepted}
 use Rattle.format.proofs.Additions.{any-draft}
@@ -64,31 +68,56 @@ section-full x before at r s e =
         let t = tests-passed at (sectionChecks x k (kindBefore k before) (ruleBefore (partIn k r) before) r) _ s w in
         tests-lead at (sectionChecks x k (kindBefore k before) (ruleBefore (partIn k r) before) r) _ (t .0) ∙ rest-full x k at r s (t .1)
 
--- The only test before what is found is that of 20.
-end-20 : {A : Type 0} (b : Bool) (at : ℕ) (f : Fault) (a : A) → need b (fault 20 at 0) (found a) ≡ refused f → f .number ≡ 20
-unfolding need
-end-20 true at f a e = absurd (let z : _≡_ {A = ℕ} 0 1 = cc in omega arith)
-end-20 false at f a e = let q : fault 20 at 0 ≡ f = cc in sym (ap (λ (g : Fault). g .number) q)
-
-then-20 : {A B : Type 0} (b : Bool) (at : ℕ) (f : Fault) (a : A) (next : A → Outcome B) → (next a ≡ refused f → f .number ≡ 20)
-    → andThen (need b (fault 20 at 0) (found a)) next ≡ refused f → f .number ≡ 20
+-- A required part is missing in this section, or what comes after it decides.
+then-full : {A : Type 0} (b c k : Bool) (at p : ℕ) (s : Section) (a : A) (next : Section → Outcome A)
+    → next s ≡ need (c && k) (fault 20 p 0) (found a)
+    → andThen (need b (fault 20 at 0) (found s)) next
+    ≡ need ((b && c) && k) (fault 20 (elim b as (λ y. ℕ) [ true ↦ p | false ↦ at ]) 0) (found a)
 unfolding andThen need
-then-20 true at f a next k e = k e
-then-20 false at f a next k e = let q : fault 20 at 0 ≡ f = cc in sym (ap (λ (g : Fault). g .number) q)
+then-full true c k at p s a next e = e
+then-full false c k at p s a next e = refl
 
--- Sections that a draft has are refused in a token with 20 alone.
-sections-20 : (d : ℕ) (x : Bool) (before : List Section) (at : ℕ) (r : List ℕ) (ss : List Section) (f : Fault)
-    → sections d false x before at r ≡ found ss → sections d true x before at r ≡ refused f → f .number ≡ 20
+-- A section that was read is as long as it states.
+section-long : (x : Bool) (before : List Section) (r : List ℕ) (s : Section) → SectionRead false x before r s
+    → stated r ≡ length (writeParts (s .head ∷ s .subs))
+section-long x before r s w =
+    let l = ap length (w .form) in
+    let m = length-append (writeParts (s .head ∷ s .subs)) (drop (stated r) r) in
+    let n = length-drop (stated r) r in
+    let h = w .ends in
+    omega arith
+
+-- Sections that a draft has are found in a token where nothing that is required is missing, and else refused with 20.
+sections-full : (d : ℕ) (x : Bool) (before : List Section) (at e : ℕ) (r : List ℕ) (ss : List Section) → Bytes r → at + length r ≡ e
+    → sections d false x before at r ≡ found ss
+    → (ts : List Section)
+    × (before ++ ts ≡ ss)
+    × (sections d true x before at r
+    ≡ need (every hasRequired ts && kindBefore information ss) (fault 20 (lackingAt e at ts) 0) (found ss))
 unfolding sections
-sections-20 zero x before at r ss f e q = absurd (refused-not e)
-sections-20 (suc d) x before at [] ss f e q = end-20 (kindBefore information before) at f before q
-sections-20 (suc d) x before at (b ∷ bs) ss f e q =
-    let r : List ℕ = b ∷ bs in
+sections-full zero x before at e r ss b h q = absurd (refused-not q)
+sections-full (suc d) x before at e [] ss b h q =
+    let w : before ≡ ss = found-inj (needed true (fault 20 at 0) (found before) ss q .1) in
+    let p : at ≡ e = omega arith in (
+      [],
+      append-nil before ∙ w,
+      ap₂ (λ (y : List Section) (n : ℕ). need (kindBefore information y) (fault 20 n 0) (found y)) w p,
+    )
+sections-full (suc d) x before at e (c ∷ cs) ss b h q =
+    let r : List ℕ = c ∷ cs in
     let next : Section → Outcome (List Section) = λ s. sections d true x (before ++ s ∷ []) (at + stated r) (drop (stated r) r) in
-    let w = followed (section false x before at r) _ ss e in
-    then-20 (hasRequired (w .0)) at f (w .0) next
-    (λ u. sections-20 d x (before ++ w .0 ∷ []) (at + stated r) (drop (stated r) r) ss f (w .2) u)
-    (ap (λ (o : Outcome Section). andThen o next) (sym (section-full x before at r (w .0) (w .1))) ∙ q)
+    let w = followed (section false x before at r) _ ss q in
+    let s : Section = w .0 in
+    let g = section-read false x before at r s b (w .1) in
+    let ends = g .ends in
+    let l = length-drop (stated r) r in
+    let i = sections-full d x (before ++ s ∷ []) (at + stated r) e (drop (stated r) r) ss (bytes-drop (stated r) r b) (omega arith) (w .2) in (
+      s ∷ i .0,
+      sym (append-assoc before (s ∷ []) (i .0)) ∙ i .1,
+      ap (λ (o : Outcome Section). andThen o next) (section-full x before at r s (w .1))
+          ∙ then-full (hasRequired s) (every hasRequired (i .0)) (kindBefore information ss) at (lackingAt e (at + stated r) (i .0)) s ss next (i .2)
+          ∙ ap (λ (n : ℕ). need (every hasRequired (s ∷ i .0) && kindBefore information ss) (fault 20 (elim (hasRequired s) as (λ y. ℕ) [ true ↦ lackingAt e (at + n) (i .0) | false ↦ at ]) 0) (found ss)) (section-long x before r s g),
+    )
 
 -- ---- the draft
 
@@ -123,30 +152,107 @@ token-of d ss b e =
     ∙ ap₂ (λ (n j : ℕ). sections (suc n) true (external j) [] 8 (drop 8 (take n T))) same (h .0)
     ∙ ap (λ (y : List ℕ). sections (suc (stated d)) true (external i) [] 8 (drop 8 y)) (take-all (stated d) T (omega arith))
 
--- A draft that reads is refused as a token with 20 alone.
-pub draft-then-20 : (d : List ℕ) (ss : List Section) (f : Fault) → Bytes d → reading false d ≡ found ss
-    → reading true (take (stated d) d) ≡ refused f → f .number ≡ 20
+-- What is required is there, as a test over the sections.
+abbrev nothingMissing : List Section → Bool
+nothingMissing ss = every hasRequired ss && kindBefore information ss
+
+-- A draft that reads is found as a token where nothing that is required is missing, and else refused with 20.
+token-full : (d : List ℕ) (ss : List Section) → Bytes d → reading false d ≡ found ss
+    → reading true (take (stated d) d) ≡ need (nothingMissing ss) (fault 20 (lackingAt (stated d) 8 ss) 0) (found ss)
 unfolding reading
-draft-then-20 d ss f b e q =
-    sections-20 (suc (stated d)) (external (idOf d)) [] 8 (drop 8 (take (stated d) d)) ss f
-    (tests-passed 0 (headerChecks false d) _ ss e .1) (sym (token-of d ss b e) ∙ q)
+token-full d ss b e =
+    let r = reading-sound false d ss b e in
+    let eight = r .eight in
+    let lt : length (take (stated d) d) ≡ stated d = length-take-le (stated d) d (r .ends) in
+    let ld = length-drop 8 (take (stated d) d) in
+    let i = sections-full (suc (stated d)) (external (idOf d)) [] 8 (stated d) (drop 8 (take (stated d) d)) ss
+    (bytes-drop 8 (take (stated d) d) (bytes-take (stated d) d b)) (omega arith) (tests-passed 0 (headerChecks false d) _ ss e .1) in
+    token-of d ss b e
+    ∙ i .2
+    ∙ ap (λ (ts : List Section). need (every hasRequired ts && kindBefore information ss) (fault 20 (lackingAt (stated d) 8 ts) 0) (found ss)) (i .1)
 
--- Finishing refuses by the draft's own fault, or with 20.
-pub finish-refuses : (d : List ℕ) (n p : ℕ) → Bytes d → finish d ≡ Refused n p
-    → ((f : Fault) × (reading false d ≡ refused f) × (n ≡ f .number) × (p ≡ f .part)) ⊎ ((ss : List Section) × (reading false d ≡ found ss) × (n ≡ 20))
-unfolding finish asAnswer andThen
-finish-refuses d n p b e = go (reading false d) refl e
+-- The test is that of the rules of 20.
+all-every : (ss : List Section) → All (λ (s : Section). hasRequired s ≡ true) ss → every hasRequired ss ≡ true
+all-every [] h = refl
+all-every (s ∷ ss) h = and-join _ _ (h .0) (all-every ss (h .1))
+
+every-all : (ss : List Section) → every hasRequired ss ≡ true → All (λ (s : Section). hasRequired s ≡ true) ss
+every-all [] h = tt
+every-all (s ∷ ss) h = let q = and-split (hasRequired s) (every hasRequired ss) h in (q .0, every-all ss (q .1))
+
+missing-none : (d : List ℕ) (ss : List Section) → Bytes d → reading false d ≡ found ss → Complete (partsOf ss) ↔ (nothingMissing ss ≡ true)
+missing-none d ss b e =
+    let g = reading-sound false d ss b e .good .each in
+    let back : sectionsOf (partsOf ss) ≡ ss = group-flat ss (grouped false (external (idOf d)) ss g) in (
+      (λ c.
+          and-join _ _ (all-every ss (rw back at (c .within)))
+          (sym (ap (kindBefore information) back) ∙ has-section information (partsOf ss) refl (c .section14))),
+      λ t.
+          let q = and-split (every hasRequired ss) (kindBefore information ss) t in
+          record { section14 = flat-has information ss (q .1); within = rw back (every-all ss (q .0)) },
+    )
+
+-- ---- finishing
+
+-- The draft's own fault is given back.
+pub finish-own : (d : List ℕ) (f : Fault) → reading false d ≡ refused f → finish d ≡ Refused (f .number) (f .part)
+unfolding finish asAnswer
+finish-own d f e = ap (asAnswer (λ us. stated d)) (then-refused _ e)
+
+-- Of a draft that reads 20 is given where a required part is missing, and else its length.
+read-finish : (d : List ℕ) (ss : List Section) → Bytes d → reading false d ≡ found ss
+    → finish d ≡ asAnswer (λ us. stated d) (need (nothingMissing ss) (fault 20 (lackingAt (stated d) 8 ss) 0) (found ss))
+unfolding finish
+read-finish d ss b e = ap (asAnswer (λ us. stated d)) (then-found _ e ∙ token-full d ss b e)
+
+pub finish-lacks : (d : List ℕ) (ss : List Section) → Bytes d → reading false d ≡ found ss → (Complete (partsOf ss) → ⊥)
+    → finish d ≡ Refused 20 (lackingAt (stated d) 8 ss)
+unfolding asAnswer
+finish-lacks d ss b e c = go (nothingMissing ss) refl
   where
-    behind : (ss : List Section) (o : Outcome (List Section)) → reading false d ≡ found ss → reading true (take (stated d) d) ≡ o
-        → asAnswer (λ us. stated d) o ≡ Refused n p → n ≡ 20
-    behind ss (refused f) r q w = let m : f .number ≡ n = cc in sym m ∙ draft-then-20 d ss f b r q
-    behind ss (found us) r q w = absurd (let z : _≡_ {A = ℕ} 0 1 = cc in omega arith)
+    go : (v : Bool) → nothingMissing ss ≡ v → finish d ≡ Refused 20 (lackingAt (stated d) 8 ss)
+    go true q = absurd (c (missing-none d ss b e .1 q))
+    go false q = read-finish d ss b e ∙ ap (asAnswer (λ us. stated d)) (need-failed _ _ _ q)
 
-    go : (o : Outcome (List Section)) → reading false d ≡ o
-        → asAnswer (λ us. stated d) (andThen o (λ ss. reading true (take (stated d) d))) ≡ Refused n p
-        → ((f : Fault) × (reading false d ≡ refused f) × (n ≡ f .number) × (p ≡ f .part)) ⊎ ((ss : List Section) × (reading false d ≡ found ss) × (n ≡ 20))
-    go (refused f) r w = let m : n ≡ f .number = cc in let k : p ≡ f .part = cc in inl (f, r, m, k)
-    go (found ss) r w = inr (ss, r, behind ss (reading true (take (stated d) d)) r refl w)
+-- The two refusals of finishing: the draft's own fault, and 20.
+abbrev Own : List ℕ → ℕ → ℕ → Type 0
+Own d n p = (f : Fault) × (reading false d ≡ refused f) × (n ≡ f .number) × (p ≡ f .part)
+
+abbrev Lacks : List ℕ → ℕ → ℕ → Type 0
+Lacks d n p = (ss : List Section)
+    × (reading false d ≡ found ss)
+    × (Complete (partsOf ss) → ⊥)
+    × (n ≡ 20)
+    × (p ≡ lackingAt (stated d) 8 ss)
+
+-- Finishing refuses by the one or the other.
+pub finish-refuses : (d : List ℕ) (n p : ℕ) → Bytes d → (finish d ≡ Refused n p) ↔ (Own d n p ⊎ Lacks d n p)
+unfolding asAnswer
+finish-refuses d n p b = ((λ e. go (reading false d) refl e), λ w. back w)
+  where
+    within : (ss : List Section) → reading false d ≡ found ss → finish d ≡ Refused n p → Complete (partsOf ss) → ⊥
+    within ss r e c =
+        let t : finish d ≡ Accepted (stated d) =
+        read-finish d ss b r ∙ ap (asAnswer (λ us. stated d)) (need-passed _ _ _ (missing-none d ss b r .0 c)) in
+        let z : _≡_ {A = ℕ} 0 1 = cc in
+        omega arith
+
+    go : (o : Outcome (List Section)) → reading false d ≡ o → finish d ≡ Refused n p → Own d n p ⊎ Lacks d n p
+    go (refused f) r e =
+        let t = finish-own d f r in
+        let m : n ≡ f .number = cc in
+        let k : p ≡ f .part = cc in
+        inl (f, r, m, k)
+    go (found ss) r e =
+        let c = within ss r e in
+        let t = finish-lacks d ss b r c in
+        let m : n ≡ 20 = cc in
+        let k : p ≡ lackingAt (stated d) 8 ss = cc in
+        inr (ss, r, c, m, k)
+
+    back : Own d n p ⊎ Lacks d n p → finish d ≡ Refused n p
+    back (inl w) = finish-own d (w .0) (w .1) ∙ ap₂ Refused (sym (w .2)) (sym (w .3))
+    back (inr w) = finish-lacks d (w .0) b (w .1) (w .2) ∙ ap₂ Refused (sym (w .3)) (sym (w .4))
 
 -- What is finished is a legal token.
 pub finish-legal : (d : List ℕ) (n : ℕ) → Bytes d → finish d ≡ Accepted n → Legal (take n d)

@@ -19,7 +19,7 @@ use Rattle.format.specs.Table.{Placed, placed, rows, columns, tableOf, t
 use Rattle.format.specs.Views.{view, viewAnswer, stepAt}
 use Rattle.format.specs.GivenNumbers.{numberOf}
 use Rattle.format.specs.Writer.{draftAfter, start, addition, finish}
-use Rattle.format.specs.Claims.{IsRow, Tiles, subsOf, ruleRows, slotsOf, chosenViews, viewsFrom, walk, walkPlace, additions, restate, sectionsEnd}
+use Rattle.format.specs.Claims.{IsRow, Tiles, subsOf, ruleRows, slotsOf, chosenViews, viewsFrom, walk, walkPlace, additions, restate, sectionsEnd, lackingAt}
 use Rattle.format.specs.Examples.{tokenT, Holds, starred}
 use Rattle.format.specs.declared.Answer.the-variants.{Accepted, Refused}
 use Rattle.format.specs.declared.Step.the-variants.{End, Stopped}
@@ -214,10 +214,17 @@ finished-exactly-when-legal i ps d bs e n h b s a =
 pub finished-is-legal : (d : List ℕ) (n : ℕ) → Bytes d → finish d ≡ Accepted n → Legal (take n d)
 finished-is-legal d n b e = Finishing.finish-legal d n b e
 
--- and "Finishing gives the draft's own fault, else the reading's 20".
-pub finish-refuses-with-20 : (d : List ℕ) (n p : ℕ) → Bytes d → finish d ≡ Refused n p
-    → ((f : Fault) × (reading false d ≡ refused f) × (n ≡ f .number) × (p ≡ f .part)) ⊎ ((ss : List Section) × (reading false d ≡ found ss) × (n ≡ 20))
-finish-refuses-with-20 d n p b e = Finishing.finish-refuses d n p b e
+-- and "Finishing gives the draft's own fault, else the reading's 20": exactly where a required part is missing, at the first
+-- section that lacks one, and for a missing section 14, which comes last, at the token's length.
+pub finish-refuses-with-20 : (d : List ℕ) (n p : ℕ) → Bytes d
+    → (finish d ≡ Refused n p)
+    ↔ (((f : Fault) × (reading false d ≡ refused f) × (n ≡ f .number) × (p ≡ f .part))
+    ⊎ ((ss : List Section)
+    × (reading false d ≡ found ss)
+    × (Complete (partsOf ss) → ⊥)
+    × (n ≡ 20)
+    × (p ≡ lackingAt (stated d) 8 ss)))
+finish-refuses-with-20 d n p b = Finishing.finish-refuses d n p b
 
 -- "Its first L bytes [..] read as a token under all rules but 20": a draft's own fault is never 20.
 pub draft-never-20 : (d : List ℕ) (f : Fault) → reading false d ≡ refused f → f .number ≡ 20 → ⊥

@@ -11,7 +11,7 @@ use Rattle.format.specs.Bytes.{howMany}
 use Rattle.format.specs.Layout.{Item, code, zeros, own, count, fixed, counted, Fields}
 use Rattle.format.specs.Slots.{Slot, slots}
 use Rattle.format.specs.Parts.{Part, isSubsection, layout, size, writeParts}
-use Rattle.format.specs.Rules.{Section, frontSubs}
+use Rattle.format.specs.Rules.{Section, frontSubs, hasRequired}
 use Rattle.format.specs.Legal.{Legal}
 use Rattle.format.specs.Reading.{Outcome, found, andThen, partsOf}
 use Rattle.format.specs.Table.{Placed, placed}
@@ -91,3 +91,10 @@ restate at n bs = set (set bs (at + 2) (n / 256 % 256)) (at + 3) (n % 256)
 -- The place of the section after these. In `added-subsection-changes`.
 abbrev pub sectionsEnd : List Section → ℕ
 sectionsEnd ss = 8 + length (writeParts (partsOf ss))
+
+-- The place of refusal 20: the first of these sections that lacks what it requires, the first of them standing at place `at`;
+-- where none does, e, the token's length, for the missing section 14. In `finish-refuses-with-20`.
+abbrev pub lackingAt : ℕ → ℕ → List Section → ℕ
+lackingAt e at [] = e
+lackingAt e at (s ∷ ss) =
+    elim (hasRequired s) [ true ↦ lackingAt e (at + length (writeParts (s .head ∷ s .subs))) ss | false ↦ at ]
