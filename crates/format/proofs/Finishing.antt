@@ -1,13 +1,14 @@
--- What finishing says of any lent draft: refused by its own fault or with 20, accepted only where it is a legal token.
+-- What finishing says of any lent draft: refused by its own fault, or with 20 where a required part is missing; accepted
+-- exactly where it is a legal token.
 use mathlib.Core.Path.{_≡_, refl, sym, ap, ap₂, _∙_, subst}
 use mathlib.Core.Bool.{Bool, true, false, _&&_}
 use mathlib.Core.List.{List, [], _∷_, _++_, append-assoc, append-nil}
 use mathlib.Core.Logic.{_↔_, _⊎_, inl, inr}
 use mathlib.Core.Option.{Option, none, some}
-use Prim.Native.Nat.{ℕ, zero, suc, _+_, _-_}
+use Prim.Native.Nat.{ℕ, zero, suc, _+_, _-_, _≤_}
 use native.Mathlib.Omega.{arith}
 use lib.Dec.{leb}
-use lib.ListN.{length, take, drop, length-append, length-drop}
+use lib.ListN.{length, take, drop, length-append, length-drop, take-append-drop}
 use lib.Seq.{take-all, length-take-le}
 use borrow.Author.Tests.{eq-eqb, le-leb}
 use Rattle.format.specs.Bytes.{All, every, Bytes}
@@ -17,8 +18,9 @@ use Rattle.format.specs.Rules.{Section, sectionsOf, maskCovers, hasRequi
 use Rattle.format.specs.Legal.{Complete, Legal}
 use Rattle.format.specs.Reading.{Fault, fault, Outcome, refused, found, need, andThen, tested, idOf, stated, madeLength, partIn, subsections}
 use Rattle.format.specs.Reading.{kindBefore, ruleBefore, sectionChecks, afterSubsections, sectionRest, section, sections, headerChecks, reading, partsOf, asAnswer}
+use Rattle.format.specs.GivenNumbers.{numberOf, secondOf}
 use Rattle.format.specs.Writer.{finish}
-use Rattle.format.specs.Claims.{lackingAt}
+use Rattle.format.specs.Claims.{answerNumbers, lackingAt}
 use Rattle.format.specs.declared.Answer.the-variants.{Accepted, Refused}
 use Rattle.format.proofs.Finding.{and-split, and-join}
 use Rattle.format.proofs.Numbers.{bytes-take, bytes-drop}
@@ -28,7 +30,9 @@ use Rattle.format.proofs.Sound.{SectionRead, section-read}
 use Rattle.format.proofs.Header.{header-read}
 use Rattle.format.proofs.Flat.{grouped, flat-has, has-section}
 use Rattle.format.proofs.Accepted.{reading-sound, read-legal}
-use Rattle.format.proofs.Writing.{draft-front, draft-header, told-accepted}
+use Rattle.format.proofs.Numbering.{fault-number, draft-not-20}
+use Rattle.format.proofs.GivenNumbers.{accepted-told, refused-told, zero-told, other-told, first, second}
+use Rattle.format.proofs.Writing.{Draft, draft-of, draft-front, draft-header, told-accepted, finish-exactly}
 use Rattle.format.proofs.Additions.{any-draft}
 
 -- ---- a section and the sections
@@ -254,10 +258,85 @@ finish-refuses d n p b = ((λ e. go (reading false d) refl e), λ w. back w)
     back (inl w) = finish-own d (w .0) (w .1) ∙ ap₂ Refused (sym (w .2)) (sym (w .3))
     back (inr w) = finish-lacks d (w .0) b (w .1) (w .2) ∙ ap₂ Refused (sym (w .3)) (sym (w .4))
 
--- What is finished is a legal token.
+-- What is finished has the length that the header states,
+pub finish-length : (d : List ℕ) (n : ℕ) → finish d ≡ Accepted n → n ≡ stated d
+unfolding finish
+finish-length d n e = sym (told-accepted _ (andThen (reading false d) (λ ss. reading true (take (stated d) d))) n e .2)
+
+-- and is a legal token.
 pub finish-legal : (d : List ℕ) (n : ℕ) → Bytes d → finish d ≡ Accepted n → Legal (take n d)
 unfolding finish
 finish-legal d n b e =
     let t = told-accepted _ (andThen (reading false d) (λ ss. reading true (take (stated d) d))) n e in
     let f = followed (reading false d) _ (t .0) (t .1) in
     subst (λ (m : ℕ). Legal (take m d)) (t .2) (read-legal (take (stated d) d) (t .0) (bytes-take (stated d) d b) (f .2))
+
+-- ---- its numbers
+
+-- No refusal of finishing has the number 0.
+finish-positive : (d : List ℕ) (n p : ℕ) → finish d ≡ Refused n p → 1 ≤ n
+unfolding finish asAnswer andThen
+finish-positive d n p e = draft (reading false d) refl e
+  where
+    token : (o : Outcome (List Section)) → reading true (take (stated d) d) ≡ o → asAnswer (λ us. stated d) o ≡ Refused n p → 1 ≤ n
+    token (refused f) q w = let m : f .number ≡ n = cc in let r = fault-number true (take (stated d) d) f q in omega (arith, r)
+    token (found us) q w = absurd (let z : _≡_ {A = ℕ} 0 1 = cc in omega arith)
+
+    draft : (o : Outcome (List Section)) → reading false d ≡ o
+        → asAnswer (λ us. stated d) (andThen o (λ ss. reading true (take (stated d) d))) ≡ Refused n p → 1 ≤ n
+    draft (refused f) q w = let m : f .number ≡ n = cc in let r = fault-number false d f q in omega (arith, r)
+    draft (found ss) q w = token (reading true (take (stated d) d)) refl w
+
+-- What they say of a draft that holds a choice,
+pub finished-numbers : (i : ℕ) (ps : List Part) (d : List ℕ) → Draft i ps d
+    → ((numberOf (finish d) ≡ 0) ↔ Legal (written i ps)) × (Legal (written i ps) → secondOf (finish d) ≡ length (written i ps))
+finished-numbers i ps d w =
+    let told : Legal (written i ps) → answerNumbers (finish d) ≡ 0 ∷ length (written i ps) ∷ [] =
+    λ l. accepted-told (finish-exactly i ps d w (length (written i ps)) .1 (l, refl)) in (
+      (
+        (λ e. finish-exactly i ps d w (secondOf (finish d)) .0 (zero-told (finish d) (finish-positive d) e) .0),
+        λ l. first (told l),
+      ),
+      λ l. second (told l),
+    )
+
+-- A lent draft whose first bytes are a legal token is the draft of its choice.
+legal-draft : (d : List ℕ) (l : Legal (take (stated d) d)) → Draft (l .id) (l .parts) d
+legal-draft d l =
+    let same = l .form .same in
+    let n = ap length same in
+    let most = l .atMost in
+    draft-of (l .id) (l .parts) d (drop (stated d) d) (l .form .choice) (l .lawful) (omega arith)
+    (sym (take-append-drop (stated d) d) ∙ ap (λ (y : List ℕ). y ++ drop (stated d) d) (sym same))
+
+-- and of any lent draft.
+pub finish-numbers : (d : List ℕ) → Bytes d
+    → ((numberOf (finish d) ≡ 0) ↔ Legal (take (stated d) d))
+    × (Legal (take (stated d) d) → secondOf (finish d) ≡ stated d)
+    × ((numberOf (finish d) ≡ 20) ↔ ((ss : List Section) × (reading false d ≡ found ss) × (Complete (partsOf ss) → ⊥)))
+    × ((ss : List Section) → reading false d ≡ found ss → (Complete (partsOf ss) → ⊥) → secondOf (finish d) ≡ lackingAt (stated d) 8 ss)
+    × ((f : Fault) → reading false d ≡ refused f → answerNumbers (finish d) ≡ f .number ∷ f .part ∷ [])
+finish-numbers d b = (
+  ((λ e. legal e), λ l. first (done l)),
+  (λ l. second (done l)),
+  ((λ e. lacks (finish-refuses d 20 (secondOf (finish d)) b .0 (twenty e))), λ w. first (refused-told (finish-lacks d (w .0) b (w .1) (w .2)))),
+  (λ ss e c. second (refused-told (finish-lacks d ss b e c))),
+  λ f e. refused-told (finish-own d f e),
+)
+  where
+    done : Legal (take (stated d) d) → answerNumbers (finish d) ≡ 0 ∷ stated d ∷ []
+    done l =
+        let w = legal-draft d l in
+        accepted-told
+        (finish-exactly (l .id) (l .parts) d w (stated d) .1 (subst Legal (sym (l .form .same)) l, draft-header (l .id) (l .parts) d w .1))
+
+    legal : numberOf (finish d) ≡ 0 → Legal (take (stated d) d)
+    legal e = let z = zero-told (finish d) (finish-positive d) e in subst (λ (n : ℕ). Legal (take n d)) (finish-length d (secondOf (finish d)) z) (finish-legal d (secondOf (finish d)) b z)
+
+    twenty : numberOf (finish d) ≡ 20 → finish d ≡ Refused 20 (secondOf (finish d))
+    twenty e = other-told (finish d) (λ z. omega arith) ∙ ap (λ (n : ℕ). Refused n (secondOf (finish d))) e
+
+    lacks : Own d 20 (secondOf (finish d)) ⊎ Lacks d 20 (secondOf (finish d))
+        → (ss : List Section) × (reading false d ≡ found ss) × (Complete (partsOf ss) → ⊥)
+    lacks (inl w) = absurd (draft-not-20 d (w .0) (w .1) (sym (w .2)))
+    lacks (inr w) = (w .0, w .1, w .2)

@@ -24,6 +24,7 @@ pub mod Changes
 pub mod Additions
 pub mod Finishing
 pub mod Numbering
+pub mod GivenNumbers
 pub mod Rows
 pub mod Elements
 pub mod Tiling

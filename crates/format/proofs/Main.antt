@@ -7,19 +7,19 @@ use mathlib.Core.Logic.{_↔_, _⊎_}
 use mathlib.Core.Option.{some}
 use Prim.Native.Nat.{ℕ, suc, _+_, _*_, _^_, _≤_, _<_}
 use lib.Dec.{leb}
-use lib.ListN.{length, take, drop, getElem?}
+use lib.ListN.{length, take, drop, getElem?, replicate}
 use Rattle.format.specs.Bytes.{All, Bytes, bigEndian, number, bytesAt}
 use Rattle.format.specs.Layout.{Fields, write, fits}
 use Rattle.format.specs.Slots.{Slot, slotBytes, fieldsIn}
 use Rattle.format.specs.Parts.{Kind, rule, isSubsection, layout, Part, size, written, writeParts, joins, WrittenForm}
 use Rattle.format.specs.Rules.{Section, ofKind}
 use Rattle.format.specs.Legal.{Lawful, Complete, Legal, ruleCount, rulesOfAll, joined}
-use Rattle.format.specs.Reading.{Fault, fault, refused, found, stated, reading, partsOf, answer}
-use Rattle.format.specs.Table.{Placed, placed, rows, columns, tableOf, tableAnswer, tableAfter}
-use Rattle.format.specs.Views.{view, viewAnswer, stepAt}
-use Rattle.format.specs.GivenNumbers.{numberOf}
-use Rattle.format.specs.Writer.{draftAfter, start, addition, finish}
-use Rattle.format.specs.Claims.{IsRow, Tiles, subsOf, ruleRows, slotsOf, chosenViews, viewsFrom, walk, walkPlace, additions, restate, sectionsEnd, lackingAt}
+use Rattle.format.specs.Reading.{Fault, fault, Outcome, refused, found, stated, reading, partsOf, answer}
+use Rattle.format.specs.Table.{Placed, placed, rows, columns, rowNumbers, tableOf, tableAnswer, tableAfter}
+use Rattle.format.specs.Views.{fieldAt, view, viewAnswer, nextPlace, stepAt}
+use Rattle.format.specs.GivenNumbers.{numberOf, secondOf, offsetOf, lengthOf, stepNumber, rowKind}
+use Rattle.format.specs.Writer.{writeAnswer, draftAfter, start, addition, finish}
+use Rattle.format.specs.Claims.{answerNumbers, stepNumbers, IsRow, Tiles, subsOf, ruleRows, slotsOf, chosenViews, viewsFrom, walk, walkPlace, additions, restate, sectionsEnd, lackingAt}
 use Rattle.format.specs.Examples.{tokenT, Holds, starred}
 use Rattle.format.specs.declared.Answer.the-variants.{Accepted, Refused}
 use Rattle.format.specs.declared.Step.the-variants.{End, Stopped}
@@ -36,6 +36,7 @@ use Rattle.format.proofs.Writing as Writing
 use Rattle.format.proofs.Additions as Additions
 use Rattle.format.proofs.Finishing as Finishing
 use Rattle.format.proofs.Numbering as Numbering
+use Rattle.format.proofs.GivenNumbers as GivenNumbers
 use Rattle.format.proofs.Refusing as Refusing
 use Rattle.format.proofs.Examples as Examples
 
@@ -50,6 +51,12 @@ accepted-exactly-when-legal bs n b = Tables.accepted-exactly bs n b
 -- In the paper's numbers: reading gives 0 exactly for the legal tokens.
 pub number-0-exactly-when-legal : (bs : List ℕ) → Bytes bs → (numberOf (answer bs) ≡ 0) ↔ Legal bs
 number-0-exactly-when-legal bs b = Tables.zero-exactly bs b
+
+-- Beside 0 stands the count of rows; any other number is 1 to 21, and beside it a place within the bytes.
+pub reading-in-numbers : (bs : List ℕ) → Bytes bs
+    → ((l : Legal bs) → answerNumbers (answer bs) ≡ 0 ∷ length (rows (l .parts)) ∷ [])
+    × ((Legal bs → ⊥) → (1 ≤ numberOf (answer bs)) × (numberOf (answer bs) ≤ 21) × (secondOf (answer bs) ≤ length bs))
+reading-in-numbers bs b = Tables.reading-numbers bs b
 
 -- "[..] and the lent table has room": reading into a table accepts exactly the legal tokens whose rows have room in it.
 pub accepted-into-table : (bs t : List ℕ) (n : ℕ) → Bytes bs
@@ -70,6 +77,16 @@ no-room bs t n b = Tables.no-room bs t n b
 -- "A refusal changes nothing lent": a refused reading, 23 too, leaves the table as it was.
 pub table-kept : (bs t : List ℕ) (n p : ℕ) → tableAnswer bs t ≡ Refused n p → tableAfter bs t ≡ t
 table-kept bs t n p e = Tables.table-kept bs t n p e
+
+-- In the paper's numbers: 0 exactly for a legal token that has room and 23 exactly for one that has none, beside both the
+-- rows; for an illegal token the numbers of reading it; a number that is not 0 leaves the table as it was.
+pub table-in-numbers : (bs t : List ℕ) → Bytes bs
+    → ((numberOf (tableAnswer bs t) ≡ 0) ↔ ((l : Legal bs) × (columns * length (rows (l .parts)) ≤ length t)))
+    × ((numberOf (tableAnswer bs t) ≡ 23) ↔ ((l : Legal bs) × (length t < columns * length (rows (l .parts)))))
+    × ((l : Legal bs) → secondOf (tableAnswer bs t) ≡ length (rows (l .parts)))
+    × ((Legal bs → ⊥) → answerNumbers (tableAnswer bs t) ≡ answerNumbers (answer bs))
+    × ((numberOf (tableAnswer bs t) ≡ 0 → ⊥) → tableAfter bs t ≡ t)
+table-in-numbers bs t b = Tables.table-numbers bs t b
 
 -- "each once, in order": the rows' own bytes tile the token from byte 8 to its end.
 pub rows-tile : (bs : List ℕ) (l : Legal bs) → Tiles 8 (placed 8 0 0 (l .parts)) (length bs)
@@ -178,6 +195,22 @@ illegal-view bs f k j e = Viewing.view-refused bs f k j e
 pub illegal-step : (bs : List ℕ) (f : Fault) (at : ℕ) → reading true bs ≡ refused f → stepAt bs at ≡ Stopped (f .number) (f .part)
 illegal-step bs f at e = Walking.step-refused bs f at e
 
+-- A view in the paper's numbers: 0 exactly where a legal token has the row and the row the field, 22 exactly where one of
+-- them is not there, beside both 0; for an illegal token the numbers of reading it.
+pub view-in-numbers : (bs : List ℕ) (k j : ℕ) → Bytes bs
+    → ((numberOf (viewAnswer bs k j) ≡ 0) ↔ ((l : Legal bs) × ((x : Placed) × IsRow bs l k x × (j < length (layout (x .part .kind))))))
+    × ((numberOf (viewAnswer bs k j) ≡ 22) ↔ ((l : Legal bs) × ((x : Placed) → IsRow bs l k x → length (layout (x .part .kind)) ≤ j)))
+    × (Legal bs → secondOf (viewAnswer bs k j) ≡ 0)
+    × ((Legal bs → ⊥) → answerNumbers (viewAnswer bs k j) ≡ answerNumbers (answer bs))
+view-in-numbers bs k j b = Viewing.view-numbers bs k j b
+
+-- Where the field lies: its slot's offset in the token and its length, both 0 where the number is not 0.
+pub field-in-numbers : (bs : List ℕ) (k j : ℕ)
+    → ((l : Legal bs) (x : Placed) (s : Slot) → IsRow bs l k x → getElem? (slotsOf bs x) j ≡ some s
+    → (offsetOf (fieldAt bs k j) ≡ x .row .offset + s .offset) × (lengthOf (fieldAt bs k j) ≡ s .width))
+    × ((numberOf (viewAnswer bs k j) ≡ 0 → ⊥) → (offsetOf (fieldAt bs k j) ≡ 0) × (lengthOf (fieldAt bs k j) ≡ 0))
+field-in-numbers bs k j = Viewing.field-numbers bs k j
+
 -- From place 8, following the next places, the records are the rows of the table in order, and then the end.
 pub walk-gives-the-rows : (bs : List ℕ) (l : Legal bs)
     → (walk (suc (length (l .parts))) bs 8 ≡ rows (l .parts)) × (stepAt bs (walkPlace (length (l .parts)) bs 8) ≡ End)
@@ -190,6 +223,26 @@ end-at-the-length bs l = Walking.step-at-end bs l
 pub no-row-begins-there : (bs : List ℕ) (l : Legal bs) (at : ℕ)
     → ((k : ℕ) (x : Placed) → IsRow bs l k x → at ≡ x .row .offset → ⊥) → (at ≡ length bs → ⊥) → stepAt bs at ≡ Stopped 22 0
 no-row-begins-there bs l at a b = Walking.step-nowhere bs l at a b
+
+-- "each step answers one record, the end or a refusal: the row that begins there with the next row's place", in the paper's
+-- numbers: 0, 0, the row's four and that place; at the end 0s; at any other place 22 and 0s; for an illegal token the
+-- numbers of reading it and 0s.
+pub step-in-numbers : (bs : List ℕ) → Bytes bs
+    → ((l : Legal bs) (k : ℕ) (x : Placed) → IsRow bs l k x
+    → stepNumbers (stepAt bs (x .row .offset))
+    ≡ 0 ∷ 0 ∷ rowNumbers (x .row) ++ (nextPlace (length bs) (drop (suc k) (rows (l .parts))) ∷ []))
+    × (Legal bs → stepNumbers (stepAt bs (length bs)) ≡ replicate 7 0)
+    × ((l : Legal bs) (at : ℕ) → ((k : ℕ) (x : Placed) → IsRow bs l k x → at ≡ x .row .offset → ⊥) → (at ≡ length bs → ⊥)
+    → stepNumbers (stepAt bs at) ≡ 22 ∷ replicate 6 0)
+    × ((at : ℕ) → (Legal bs → ⊥) → stepNumbers (stepAt bs at) ≡ answerNumbers (answer bs) ++ replicate 5 0)
+step-in-numbers bs b = Walking.step-numbers bs b
+
+-- So 0 with kind 0 is given exactly at the end, and 22 exactly at a place that is neither a row's nor the end.
+pub step-by-its-numbers : (bs : List ℕ) (at : ℕ) → Bytes bs
+    → (((stepNumber (stepAt bs at) ≡ 0) × (rowKind (stepAt bs at) ≡ 0)) ↔ (Legal bs × (at ≡ length bs)))
+    × ((stepNumber (stepAt bs at) ≡ 22)
+    ↔ ((l : Legal bs) × ((k : ℕ) (x : Placed) → IsRow bs l k x → at ≡ x .row .offset → ⊥) × (at ≡ length bs → ⊥)))
+step-by-its-numbers bs at b = Walking.step-exactly bs at b
 
 -- ---- the writer
 
@@ -210,6 +263,13 @@ pub finished-exactly-when-legal : (i : ℕ) (ps : List Part) (d bs e : List ℕ)
 finished-exactly-when-legal i ps d bs e n h b s a =
     Writing.finish-exactly i ps e (Writing.run-read ps i [] (draftAfter (found bs) d) e (Writing.started i d bs h s) b a) n
 
+-- In the paper's numbers: 0 exactly then, and beside it that length.
+pub finished-in-numbers : (i : ℕ) (ps : List Part) (d bs e : List ℕ) → i < 256 → All (λ (p : Part). All Bytes (p .fields)) ps
+    → start i d ≡ found bs → additions ps (draftAfter (found bs) d) ≡ found e
+    → ((numberOf (finish e) ≡ 0) ↔ Legal (written i ps)) × (Legal (written i ps) → secondOf (finish e) ≡ length (written i ps))
+finished-in-numbers i ps d bs e h b s a =
+    Finishing.finished-numbers i ps e (Writing.run-read ps i [] (draftAfter (found bs) d) e (Writing.started i d bs h s) b a)
+
 -- Of any lent draft, whatever was done with it: what finishing accepts is a legal token with the length given back,
 pub finished-is-legal : (d : List ℕ) (n : ℕ) → Bytes d → finish d ≡ Accepted n → Legal (take n d)
 finished-is-legal d n b e = Finishing.finish-legal d n b e
@@ -225,6 +285,16 @@ pub finish-refuses-with-20 : (d : List ℕ) (n p : ℕ) → Bytes d
     × (n ≡ 20)
     × (p ≡ lackingAt (stated d) 8 ss)))
 finish-refuses-with-20 d n p b = Finishing.finish-refuses d n p b
+
+-- "else L": in the paper's numbers 0 exactly where the draft's first L bytes are a legal token, and beside it L; 20 exactly
+-- where the draft reads and a required part is missing, with its place; else the draft's own number and place.
+pub finish-in-numbers : (d : List ℕ) → Bytes d
+    → ((numberOf (finish d) ≡ 0) ↔ Legal (take (stated d) d))
+    × (Legal (take (stated d) d) → secondOf (finish d) ≡ stated d)
+    × ((numberOf (finish d) ≡ 20) ↔ ((ss : List Section) × (reading false d ≡ found ss) × (Complete (partsOf ss) → ⊥)))
+    × ((ss : List Section) → reading false d ≡ found ss → (Complete (partsOf ss) → ⊥) → secondOf (finish d) ≡ lackingAt (stated d) 8 ss)
+    × ((f : Fault) → reading false d ≡ refused f → answerNumbers (finish d) ≡ f .number ∷ f .part ∷ [])
+finish-in-numbers d b = Finishing.finish-numbers d b
 
 -- "Its first L bytes [..] read as a token under all rules but 20": a draft's own fault is never 20.
 pub draft-never-20 : (d : List ℕ) (f : Fault) → reading false d ≡ refused f → f .number ≡ 20 → ⊥
@@ -243,6 +313,12 @@ pub then-24-25-23 : (p : Part) (d : List ℕ) (ss : List Section) → reading fa
     → addition (p .kind) (p .fields) d ≡ refused (fault 23 (stated d) 0))
 then-24-25-23 p d ss e =
     (Refusing.lengths-first (p .kind) (p .fields) d ss e, Refusing.joining-next (p .kind) (p .fields) d ss e, Refusing.room-last (p .kind) (p .fields) d ss e)
+
+-- In the paper's numbers: a start or an addition gives 0 and the draft's length, or the refusal's number and place.
+pub writing-in-numbers : (o : Outcome (List ℕ))
+    → ((bs : List ℕ) → o ≡ found bs → answerNumbers (writeAnswer o) ≡ 0 ∷ length bs ∷ [])
+    × ((f : Fault) → o ≡ refused f → answerNumbers (writeAnswer o) ≡ f .number ∷ f .part ∷ [])
+writing-in-numbers o = GivenNumbers.outcome-told length o
 
 -- "Adding the parts of any legal token in their order, to a draft newly started with its identifier and with room, gives
 -- back its very bytes", and leaves what stood after them.

@@ -5,7 +5,7 @@ use mathlib.Core.Option.{some}
 use Prim.Native.Nat.{ℕ, zero, suc, _+_, _≤_, _<_}
 use native.Mathlib.Omega.{arith}
 use lib.Dec.{eqb}
-use lib.ListN.{getElem?}
+use lib.ListN.{drop, getElem?}
 use borrow.Author.Tests.{eq-eqb, ne-eqb}
 use Rattle.format.specs.Parts.{size}
 use Rattle.format.specs.Table.{Placed}
@@ -83,6 +83,16 @@ step-later e r rs at h =
 next-from : (at e : ℕ) (xs : List Placed) → Tiles at xs e → nextPlace e (rowsOf xs) ≡ at
 next-from at e [] t = sym t
 next-from at e (x ∷ xs) t = t .0
+
+-- After a row the next one, or the end, is where its part ends.
+pub next-after : (at e : ℕ) (xs : List Placed) (k : ℕ) (x : Placed) → Tiles at xs e → getElem? xs k ≡ some x
+    → nextPlace e (drop (suc k) (rowsOf xs)) ≡ x .row .offset + size (x .part)
+next-after at e [] k x t g = absurd (let z : _≡_ {A = ℕ} 0 1 = cc in omega arith)
+next-after at e (y ∷ xs) zero x t g =
+    let a = t .0 in
+    let p = ap (λ (v : Placed). v .row .offset + size (v .part)) (some-inj g) in
+    next-from _ e xs (t .1) ∙ omega arith
+next-after at e (y ∷ xs) (suc k) x t g = next-after (at + size (y .part)) e xs k x (t .1) g
 
 -- At a row's place the step gives the row and the place where its part ends.
 pub step-row : (at e : ℕ) (xs : List Placed) (k : ℕ) (x : Placed) → Tiles at xs e → getElem? xs k ≡ some x

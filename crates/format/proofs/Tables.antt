@@ -1,7 +1,7 @@
 -- The answers of reading, and of reading into a table, by legality.
 use mathlib.Core.Path.{_≡_, refl, sym, ap, ap₂, _∙_}
 use mathlib.Core.Bool.{Bool, true, false}
-use mathlib.Core.List.{List, _++_}
+use mathlib.Core.List.{List, [], _∷_, _++_}
 use mathlib.Core.Logic.{_↔_, _⊎_, inl, inr}
 use Prim.Native.Nat.{ℕ, _*_, _≤_, _<_}
 use native.Mathlib.Omega.{arith}
@@ -14,13 +14,15 @@ use Rattle.format.specs.Rules.{Section, sectionsOf}
 use Rattle.format.specs.Legal.{Legal}
 use Rattle.format.specs.Reading.{Fault, Outcome, refused, found, fault, need, andThen, place, reading, partsOf, rowCount, asAnswer, answer}
 use Rattle.format.specs.Table.{rows, columns, tableOf, roomFor, tableReading, tableAnswer, tableAfter}
-use Rattle.format.specs.GivenNumbers.{numberOf}
+use Rattle.format.specs.GivenNumbers.{numberOf, secondOf}
+use Rattle.format.specs.Claims.{answerNumbers}
 use Rattle.format.specs.declared.Answer.{Answer}
 use Rattle.format.specs.declared.Answer.the-variants.{Accepted, Refused}
-use Rattle.format.proofs.Tests.{found-inj, needed, need-passed, followed, then-found}
+use Rattle.format.proofs.Tests.{found-inj, needed, need-passed, followed, then-found, then-refused}
 use Rattle.format.proofs.Accepted.{legal-read}
 use Rattle.format.proofs.Writing.{told-accepted, told-found}
-use Rattle.format.proofs.Numbering.{refusal-number, fault-number}
+use Rattle.format.proofs.Numbering.{refusal-number, fault-number, refusal-place}
+use Rattle.format.proofs.GivenNumbers.{accepted-told, refused-told, other-told, first, second, own-answer, illegal, Told, by-legality}
 use Rattle.format.proofs.Rows.{row-count}
 use Rattle.format.proofs.Viewing.{legal-parts, read-parts}
 
@@ -70,6 +72,22 @@ zero-exactly bs b = (
     go : ((n : ℕ) × (answer bs ≡ Accepted n)) ⊎ ((n : ℕ) × (p : ℕ) × (answer bs ≡ Refused n p) × (1 ≤ n) × (n ≤ 21)) → numberOf (answer bs) ≡ 0 → Legal bs
     go (inl w) e = accepted-exactly bs (w .0) b .0 (w .1) .0
     go (inr w) e = absurd (let z : w .0 ≡ 0 = sym (ap numberOf (w .2)) ∙ e in let m = w .3 in omega arith)
+
+-- What the numbers of reading say.
+pub reading-numbers : (bs : List ℕ) → Bytes bs
+    → ((l : Legal bs) → answerNumbers (answer bs) ≡ 0 ∷ length (rows (l .parts)) ∷ [])
+    × ((Legal bs → ⊥) → (1 ≤ numberOf (answer bs)) × (numberOf (answer bs) ≤ 21) × (secondOf (answer bs) ≤ length bs))
+reading-numbers bs b = (
+  λ l. accepted-told (accepted-exactly bs (length (rows (l .parts))) b .1 (l, refl)),
+  λ h.
+      let u = illegal bs b h in
+      let t = refused-told (own-answer bs (u .0) (u .1)) in
+      let n = first t in
+      let p = second t in
+      let m = fault-number true bs (u .0) (u .1) in
+      let q = refusal-place true bs (u .0) (u .1) .1 in
+      (omega (arith, m), omega (arith, m), omega arith),
+)
 
 -- ---- reading into a table
 
@@ -167,3 +185,33 @@ no-room bs t n b = (
       let h : length t < columns * length (rows (l .parts)) = (let a = w .1 in let c = w .2 in omega arith) in
       ap (asAnswer rowCount) (cramped bs t l h) ∙ ap (Refused 23) (sym (w .1)),
 )
+
+-- ---- its numbers
+
+-- A legal token's rows have room or not.
+legal-table : (bs t : List ℕ) → Bytes bs → (l : Legal bs)
+    → Told (tableAnswer bs t) 23 (length (rows (l .parts))) (columns * length (rows (l .parts)) ≤ length t) (length t < columns * length (rows (l .parts)))
+legal-table bs t b l = go (leb (columns * length (rows (l .parts))) (length t)) refl
+  where
+    go : (v : Bool) → leb (columns * length (rows (l .parts))) (length t) ≡ v
+        → Told (tableAnswer bs t) 23 (length (rows (l .parts))) (columns * length (rows (l .parts)) ≤ length t) (length t < columns * length (rows (l .parts)))
+    go true q =
+        let h = leb-true (columns * length (rows (l .parts))) (length t) q in
+        inl (h, accepted-told (table-exactly bs t (length (rows (l .parts))) b .1 (l, refl, h)))
+    go false q =
+        let h = leb-false (columns * length (rows (l .parts))) (length t) q in
+        inr (h, refused-told (no-room bs t (length (rows (l .parts))) b .1 (l, refl, h)))
+
+own-table : (bs t : List ℕ) (f : Fault) → reading true bs ≡ refused f → tableAnswer bs t ≡ Refused (f .number) (f .part)
+unfolding tableAnswer tableReading asAnswer
+own-table bs t f e = ap (asAnswer rowCount) (then-refused _ e)
+
+pub table-numbers : (bs t : List ℕ) → Bytes bs
+    → ((numberOf (tableAnswer bs t) ≡ 0) ↔ ((l : Legal bs) × (columns * length (rows (l .parts)) ≤ length t)))
+    × ((numberOf (tableAnswer bs t) ≡ 23) ↔ ((l : Legal bs) × (length t < columns * length (rows (l .parts)))))
+    × ((l : Legal bs) → secondOf (tableAnswer bs t) ≡ length (rows (l .parts)))
+    × ((Legal bs → ⊥) → answerNumbers (tableAnswer bs t) ≡ answerNumbers (answer bs))
+    × ((numberOf (tableAnswer bs t) ≡ 0 → ⊥) → tableAfter bs t ≡ t)
+table-numbers bs t b =
+    let r = by-legality bs (tableAnswer bs t) 23 (λ l. length (rows (l .parts))) _ _ b (omega arith) (λ l p q. omega arith) (legal-table bs t b) (own-table bs t) in
+    (r .0, r .1, r .2, r .3, λ h. table-kept bs t _ _ (other-told (tableAnswer bs t) h))

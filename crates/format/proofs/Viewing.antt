@@ -1,7 +1,7 @@
 -- The views of a legal token: each field's bytes, end to end the part's; the refusals for any other row, field or
 -- token.
-use mathlib.Core.Path.{_≡_, refl, sym, ap, ap₂, _∙_}
-use mathlib.Core.Bool.{true}
+use mathlib.Core.Path.{_≡_, refl, sym, ap, ap₂, _∙_, subst}
+use mathlib.Core.Bool.{Bool, true, false}
 use mathlib.Core.List.{List, [], _∷_, _++_}
 use mathlib.Core.Option.{Option, none, some}
 use Prim.Native.Nat.{ℕ, zero, suc, _+_, _≤_, _<_}
@@ -12,12 +12,16 @@ use lib.Seq.{drop-drop, drop-at}
 use Rattle.format.specs.Bytes.{Bytes, number, bytesAt}
 use Rattle.format.specs.Layout.{Item, code, zeros, own, count, fixed, counted, Fields, write}
 use Rattle.format.specs.Slots.{Slot, slots, slotBytes, fieldsIn, endOf}
+use mathlib.Core.Logic.{_↔_, inl, inr}
+use lib.Dec.{leb}
+use borrow.Author.Tests.{leb-true, leb-false}
 use Rattle.format.specs.Parts.{layout, Part, writeParts, external}
 use Rattle.format.specs.Rules.{Section, sectionsOf}
 use Rattle.format.specs.Legal.{Legal}
-use Rattle.format.specs.Reading.{Fault, refused, found, reading, partsOf}
+use Rattle.format.specs.Reading.{Fault, refused, found, reading, partsOf, answer}
 use Rattle.format.specs.Table.{Placed, placed}
 use Rattle.format.specs.Views.{slotOf, fieldAt, bytesThere, view, whetherThere, viewAnswer}
+use Rattle.format.specs.GivenNumbers.{numberOf, secondOf, offsetOf, lengthOf}
 use Rattle.format.specs.declared.Answer.the-variants.{Accepted, Refused}
 use Rattle.format.specs.declared.Where.{Where}
 use Rattle.format.specs.declared.Where.the-variants.{At, Missing}
@@ -27,11 +31,12 @@ use Rattle.format.proofs.Unique.{size-any}
 use Rattle.format.proofs.Tests.{found-inj}
 use Rattle.format.proofs.Flat.{choice-flat}
 use Rattle.format.proofs.Accepted.{choice-parts, read-legal, legal-read}
-use Rattle.format.proofs.Elements.{there, nowhere}
+use Rattle.format.proofs.Elements.{there, nowhere, there-lt, some-inj}
 use Rattle.format.proofs.Cutting.{slot-count, slotted, slots-contiguous, slots-tile, slots-inside}
+use Rattle.format.proofs.GivenNumbers.{accepted-told, refused-told, Told, by-legality}
 use Rattle.format.proofs.Rows.{placed-count}
 use Rattle.format.proofs.Tiling.{row-of, row-inside}
-use Rattle.format.specs.Claims.{IsRow, slotsOf, chosenViews, viewsFrom}
+use Rattle.format.specs.Claims.{answerNumbers, IsRow, slotsOf, chosenViews, viewsFrom}
 
 -- ---- where a field lies
 
@@ -105,14 +110,18 @@ slots-end bs l k x e =
 slots-count : (bs : List ℕ) (x : Placed) → length (slotsOf bs x) ≡ length (layout (x .part .kind))
 slots-count bs x = slot-count [] (layout (x .part .kind)) (drop (x .row .offset) bs) 0
 
+-- A field lies where its slot does.
+pub field-there : (bs : List ℕ) (l : Legal bs) (k j : ℕ) (x : Placed) (s : Slot) → IsRow bs l k x
+    → getElem? (slotsOf bs x) j ≡ some s → fieldAt bs k j ≡ At (x .row .offset + s .offset) (s .width)
+field-there bs l k j x s e q = field-at bs l k j x e ∙ ap (ofSlot (x .row .offset)) q
+
 -- The view of a field is the bytes of its slot, and its partner question is answered 0.
 view-slot : (bs : List ℕ) (l : Legal bs) (k j : ℕ) (x : Placed) (s : Slot) → IsRow bs l k x
     → getElem? (slotsOf bs x) j ≡ some s
     → (view bs k j ≡ slotBytes (drop (x .row .offset) bs) s) × (viewAnswer bs k j ≡ Accepted 0)
 unfolding view viewAnswer bytesAt
 view-slot bs l k j x s e q =
-    let w : fieldAt bs k j ≡ At (x .row .offset + s .offset) (s .width) =
-    field-at bs l k j x e ∙ ap (ofSlot (x .row .offset)) q in (
+    let w = field-there bs l k j x s e q in (
       ap (bytesThere bs) w ∙ ap (take (s .width)) (sym (drop-drop (s .offset) (x .row .offset) bs)),
       ap whetherThere w,
     )
@@ -256,3 +265,59 @@ views-tile bs l k x e =
     let n = slots-count bs x in
     views-slotted bs l k x e (length (layout (x .part .kind))) 0 (omega arith)
     ∙ append-inj (slotted r ss) w (omega arith) tile .0
+
+-- ---- the numbers of a view
+
+-- A legal token has the field of the row or not.
+legal-view : (bs : List ℕ) (k j : ℕ) (l : Legal bs)
+    → Told (viewAnswer bs k j) 22 0 ((x : Placed) × IsRow bs l k x × (j < length (layout (x .part .kind))))
+    ((x : Placed) → IsRow bs l k x → length (layout (x .part .kind)) ≤ j)
+legal-view bs k j l = row (leb (length (l .parts)) k) refl
+  where
+    field : (x : Placed) → IsRow bs l k x → (v : Bool) → leb (length (layout (x .part .kind))) j ≡ v
+        → Told (viewAnswer bs k j) 22 0 ((y : Placed) × IsRow bs l k y × (j < length (layout (y .part .kind))))
+        ((y : Placed) → IsRow bs l k y → length (layout (y .part .kind)) ≤ j)
+    field x r false q =
+        let h = leb-false (length (layout (x .part .kind))) j q in
+        inl ((x, r, h), accepted-told (view-field bs l k j x r h .3))
+    field x r true q =
+        let h = leb-true (length (layout (x .part .kind))) j q in
+        inr ((λ y e. subst (λ (z : Placed). length (layout (z .part .kind)) ≤ j) (some-inj (sym r ∙ e)) h), refused-told (view-no-field bs l k j x r h .1))
+
+    row : (v : Bool) → leb (length (l .parts)) k ≡ v
+        → Told (viewAnswer bs k j) 22 0 ((x : Placed) × IsRow bs l k x × (j < length (layout (x .part .kind))))
+        ((x : Placed) → IsRow bs l k x → length (layout (x .part .kind)) ≤ j)
+    row true q =
+        let h = leb-true (length (l .parts)) k q in
+        let n = placed-count 8 0 0 (l .parts) in
+        inr ((λ y e. absurd (let t = there-lt (placed 8 0 0 (l .parts)) k y e in omega arith)), refused-told (view-no-row bs l k j h .1))
+    row false q =
+        let h = leb-false (length (l .parts)) k q in
+        let n = placed-count 8 0 0 (l .parts) in
+        let t = there (placed 8 0 0 (l .parts)) k (omega arith) in
+        field (t .0) (t .1) (leb (length (layout (t .0 .part .kind))) j) refl
+
+pub view-numbers : (bs : List ℕ) (k j : ℕ) → Bytes bs
+    → ((numberOf (viewAnswer bs k j) ≡ 0) ↔ ((l : Legal bs) × ((x : Placed) × IsRow bs l k x × (j < length (layout (x .part .kind))))))
+    × ((numberOf (viewAnswer bs k j) ≡ 22) ↔ ((l : Legal bs) × ((x : Placed) → IsRow bs l k x → length (layout (x .part .kind)) ≤ j)))
+    × (Legal bs → secondOf (viewAnswer bs k j) ≡ 0)
+    × ((Legal bs → ⊥) → answerNumbers (viewAnswer bs k j) ≡ answerNumbers (answer bs))
+view-numbers bs k j b =
+    by-legality bs (viewAnswer bs k j) 22 (λ l. 0) _ _ b (omega arith)
+    (λ l p q. let a = p .2 in let c = q (p .0) (p .1) in omega arith) (legal-view bs k j) (λ f e. view-refused bs f k j e .1)
+
+-- Where a field lies, as numbers: those of its slot, and 0 on refusal.
+nowhere-told : (w : Where) → (numberOf (whetherThere w) ≡ 0 → ⊥) → (offsetOf w ≡ 0) × (lengthOf w ≡ 0)
+unfolding numberOf offsetOf lengthOf
+nowhere-told (At o n) h = absurd (h refl)
+nowhere-told (Missing n p) h = (refl, refl)
+
+pub field-numbers : (bs : List ℕ) (k j : ℕ)
+    → ((l : Legal bs) (x : Placed) (s : Slot) → IsRow bs l k x → getElem? (slotsOf bs x) j ≡ some s
+    → (offsetOf (fieldAt bs k j) ≡ x .row .offset + s .offset) × (lengthOf (fieldAt bs k j) ≡ s .width))
+    × ((numberOf (viewAnswer bs k j) ≡ 0 → ⊥) → (offsetOf (fieldAt bs k j) ≡ 0) × (lengthOf (fieldAt bs k j) ≡ 0))
+unfolding viewAnswer offsetOf lengthOf
+field-numbers bs k j = (
+  (λ l x s r q. let e = field-there bs l k j x s r q in (ap offsetOf e, ap lengthOf e)),
+  λ h. nowhere-told (fieldAt bs k j) h,
+)

@@ -1,27 +1,35 @@
 -- The walk over a legal token: from byte 8 its records are the rows in order, then comes the end; 22 at any other
 -- place.
 use mathlib.Core.Path.{_≡_, refl, sym, ap, _∙_, subst}
-use mathlib.Core.Bool.{true}
-use mathlib.Core.List.{List, [], _∷_}
+use mathlib.Core.Bool.{Bool, true, false}
+use mathlib.Core.List.{List, [], _∷_, _++_, map}
+use mathlib.Core.Logic.{_↔_, inl, inr}
 use mathlib.Core.Option.{some}
-use Prim.Native.Nat.{ℕ, zero, suc, _+_, _≤_}
+use Prim.Native.Nat.{ℕ, zero, suc, _+_, _≤_, _<_}
 use native.Mathlib.Omega.{arith}
-use lib.ListN.{length, getElem?}
+use lib.Dec.{eqb}
+use lib.ListN.{length, drop, getElem?, replicate}
+use borrow.Author.Tests.{eqb-true}
+use Rattle.format.specs.Bytes.{Bytes}
 use Rattle.format.specs.Parts.{Part, size}
 use Rattle.format.specs.Legal.{Legal}
-use Rattle.format.specs.Reading.{Fault, refused, reading}
-use Rattle.format.specs.Table.{Placed, placed, rows}
-use Rattle.format.specs.Views.{stepIn, stepAt, placeAfter}
+use Rattle.format.specs.Reading.{Fault, refused, reading, answer}
+use Rattle.format.specs.Table.{Placed, placed, rows, rowNumbers}
+use Rattle.format.specs.Views.{nextPlace, stepIn, stepAt, placeAfter}
+use Rattle.format.specs.GivenNumbers.{stepNumber, stepSecond, rowKind, rowOffset, rowLength, rowOwner, nextOf}
 use Rattle.format.specs.declared.Row.{Row}
 use Rattle.format.specs.declared.Step.{Step}
 use Rattle.format.specs.declared.Step.the-variants.{Record, End, Stopped}
+use Rattle.format.proofs.Finding.{sectionId-pos}
 use Rattle.format.proofs.Accepted.{legal-read}
+use Rattle.format.proofs.Numbering.{fault-number}
+use Rattle.format.proofs.GivenNumbers.{refused-told, Judged, judged, own-answer, illegal}
 use Rattle.format.proofs.Rows.{placed-count}
 use Rattle.format.proofs.Tiling.{rows-tile, row-of}
-use Rattle.format.proofs.Stepping.{next-tile, rowsOf, step-row, step-end}
+use Rattle.format.proofs.Stepping.{next-tile, next-after, rowsOf, step-row, step-end}
 use Rattle.format.proofs.Stepping.{step-elsewhere}
 use Rattle.format.proofs.Viewing.{legal-parts}
-use Rattle.format.specs.Claims.{Tiles, IsRow, walk, walkPlace}
+use Rattle.format.specs.Claims.{answerNumbers, stepNumbers, Tiles, IsRow, walk, walkPlace}
 
 -- ---- one step
 
@@ -36,6 +44,13 @@ pub step-at-row : (bs : List ℕ) (l : Legal bs) (k : ℕ) (x : Placed) → IsRo
     → stepAt bs (x .row .offset) ≡ Record (x .row) (x .row .offset + size (x .part))
 step-at-row bs l k x e =
     step-legal bs l (x .row .offset) ∙ step-row 8 (length bs) (placed 8 0 0 (l .parts)) k x (rows-tile bs l) e
+
+-- That place is the next row's, and after the last row the token's length.
+pub step-after-row : (bs : List ℕ) (l : Legal bs) (k : ℕ) (x : Placed) → IsRow bs l k x
+    → stepAt bs (x .row .offset) ≡ Record (x .row) (nextPlace (length bs) (drop (suc k) (rows (l .parts))))
+step-after-row bs l k x e =
+    step-at-row bs l k x e
+    ∙ ap (Record (x .row)) (sym (next-after 8 (length bs) (placed 8 0 0 (l .parts)) k x (rows-tile bs l) e))
 
 -- The first row begins at byte 8.
 pub first-place : (bs : List ℕ) (l : Legal bs) (x : Placed) → IsRow bs l 0 x → x .row .offset ≡ 8
@@ -112,3 +127,77 @@ walk-all bs l = (
   walk-legal bs l (suc (length (l .parts))) (omega arith) .0,
   ap (stepAt bs) (walk-legal bs l (length (l .parts)) (omega arith) .1) ∙ step-at-end bs l,
 )
+
+-- ---- the numbers of a step
+
+pub step-numbers : (bs : List ℕ) → Bytes bs
+    → ((l : Legal bs) (k : ℕ) (x : Placed) → IsRow bs l k x
+    → stepNumbers (stepAt bs (x .row .offset))
+    ≡ 0 ∷ 0 ∷ rowNumbers (x .row) ++ (nextPlace (length bs) (drop (suc k) (rows (l .parts))) ∷ []))
+    × (Legal bs → stepNumbers (stepAt bs (length bs)) ≡ replicate 7 0)
+    × ((l : Legal bs) (at : ℕ) → ((k : ℕ) (x : Placed) → IsRow bs l k x → at ≡ x .row .offset → ⊥) → (at ≡ length bs → ⊥)
+    → stepNumbers (stepAt bs at) ≡ 22 ∷ replicate 6 0)
+    × ((at : ℕ) → (Legal bs → ⊥) → stepNumbers (stepAt bs at) ≡ answerNumbers (answer bs) ++ replicate 5 0)
+unfolding stepNumber stepSecond rowKind rowOffset rowLength rowOwner nextOf
+step-numbers bs b = (
+  (λ l k x r. ap stepNumbers (step-after-row bs l k x r)),
+  (λ l. ap stepNumbers (step-at-end bs l)),
+  (λ l at h n. ap stepNumbers (step-nowhere bs l at h n)),
+  λ at h.
+      let u = illegal bs b h in
+      ap stepNumbers (step-refused bs (u .0) at (u .1))
+      ∙ ap (λ (y : List ℕ). y ++ replicate 5 0) (sym (refused-told (own-answer bs (u .0) (u .1)))),
+)
+
+-- The step with number 0 and kind 0 is that at the end, since no row has kind 0.
+end-last : (v : Bool) (e at : ℕ) → eqb at e ≡ v → stepNumber (elim v as (λ y. Step) [ true ↦ End | false ↦ Stopped 22 0 ]) ≡ 0 → at ≡ e
+unfolding stepNumber
+end-last true e at w p = eqb-true at e w
+end-last false e at w p = absurd (omega arith)
+
+end-later : (v : Bool) (r : Row) (next : ℕ) (rest : Step) (e at : ℕ) → 0 < r .kind → (stepNumber rest ≡ 0 → rowKind rest ≡ 0 → at ≡ e)
+    → stepNumber (elim v as (λ y. Step) [ true ↦ Record r next | false ↦ rest ]) ≡ 0
+    → rowKind (elim v as (λ y. Step) [ true ↦ Record r next | false ↦ rest ]) ≡ 0 → at ≡ e
+unfolding rowKind
+end-later true r next rest e at h i p q = absurd (omega arith)
+end-later false r next rest e at h i p q = i p q
+
+end-told : (e a n o : ℕ) (ps : List Part) (at : ℕ) → stepNumber (stepIn e (map (λ x. x .row) (placed a n o ps)) at) ≡ 0
+    → rowKind (stepIn e (map (λ x. x .row) (placed a n o ps)) at) ≡ 0 → at ≡ e
+end-told e a n o [] at p q = end-last (eqb at e) e at refl p
+end-told e a n o (c ∷ ps) at p q =
+    let h = sectionId-pos (c .kind) in
+    end-later (eqb at a) _ _ _ e at (omega arith) (end-told e _ _ _ ps at) p q
+
+pub step-exactly : (bs : List ℕ) (at : ℕ) → Bytes bs
+    → (((stepNumber (stepAt bs at) ≡ 0) × (rowKind (stepAt bs at) ≡ 0)) ↔ (Legal bs × (at ≡ length bs)))
+    × ((stepNumber (stepAt bs at) ≡ 22)
+    ↔ ((l : Legal bs) × ((k : ℕ) (x : Placed) → IsRow bs l k x → at ≡ x .row .offset → ⊥) × (at ≡ length bs → ⊥)))
+unfolding stepNumber rowKind
+step-exactly bs at b = (
+  ((λ w. ended (w .0) (w .1) (judged bs b)), λ w. (ap stepNumber (at-end w), ap rowKind (at-end w))),
+  ((λ e. nowhere e (judged bs b)), λ w. ap stepNumber (step-nowhere bs (w .0) at (w .1) (w .2))),
+)
+  where
+    at-end : Legal bs × (at ≡ length bs) → stepAt bs at ≡ End
+    at-end w = ap (stepAt bs) (w .1) ∙ step-at-end bs (w .0)
+
+    ended : stepNumber (stepAt bs at) ≡ 0 → rowKind (stepAt bs at) ≡ 0 → Judged bs
+        → Legal bs × (at ≡ length bs)
+    ended p q (inl l) =
+        let s = step-legal bs l at in
+        (l, end-told (length bs) 8 0 0 (l .parts) at (sym (ap stepNumber s) ∙ p) (sym (ap rowKind s) ∙ q))
+    ended p q (inr w) =
+        absurd (let n : w .0 .number ≡ 0 = sym (ap stepNumber (step-refused bs (w .0) at (w .1))) ∙ p in let r = fault-number true bs (w .0) (w .1) in omega (arith, r))
+
+    nowhere : stepNumber (stepAt bs at) ≡ 22 → Judged bs
+        → (l : Legal bs) × ((k : ℕ) (x : Placed) → IsRow bs l k x → at ≡ x .row .offset → ⊥) × (at ≡ length bs → ⊥)
+    nowhere p (inl l) = (
+      l,
+      (λ k x r q.
+          let n : _≡_ {A = ℕ} 0 22 = sym (ap stepNumber (ap (stepAt bs) q ∙ step-at-row bs l k x r)) ∙ p in
+          omega arith),
+      λ q. let n : _≡_ {A = ℕ} 0 22 = sym (ap stepNumber (at-end (l, q))) ∙ p in omega arith,
+    )
+    nowhere p (inr w) =
+        absurd (let n : w .0 .number ≡ 22 = sym (ap stepNumber (step-refused bs (w .0) at (w .1))) ∙ p in let r = fault-number true bs (w .0) (w .1) in omega (arith, r))

@@ -16,9 +16,23 @@ use Rattle.format.specs.Legal.{Legal}
 use Rattle.format.specs.Reading.{Outcome, found, andThen, partsOf}
 use Rattle.format.specs.Table.{Placed, placed}
 use Rattle.format.specs.Views.{view, stepAt, placeAfter}
+use Rattle.format.specs.GivenNumbers.{numberOf, secondOf, stepNumber, stepSecond, rowKind, rowOffset, rowLength, rowOwner, nextOf}
 use Rattle.format.specs.Writer.{draftAfter, addition}
+use Rattle.format.specs.declared.Answer.{Answer}
 use Rattle.format.specs.declared.Row.{Row}
+use Rattle.format.specs.declared.Step.{Step}
 use Rattle.format.specs.declared.Step.the-variants.{Record, End, Stopped}
+
+-- ---- answers in 01's numbers
+
+-- The two numbers of an answer. In `reading-in-numbers`, `table-in-numbers`, `view-in-numbers`, `step-in-numbers`,
+-- `finish-in-numbers`, `writing-in-numbers`.
+abbrev pub answerNumbers : Answer → List ℕ
+answerNumbers a = numberOf a ∷ secondOf a ∷ []
+
+-- The numbers of a step of the walk: its two, the row's four, the next row's place. In `step-in-numbers`.
+abbrev pub stepNumbers : Step → List ℕ
+stepNumbers s = stepNumber s ∷ stepSecond s ∷ rowKind s ∷ rowOffset s ∷ rowLength s ∷ rowOwner s ∷ nextOf s ∷ []
 
 -- ---- rows
 
@@ -93,7 +107,7 @@ abbrev pub sectionsEnd : List Section → ℕ
 sectionsEnd ss = 8 + length (writeParts (partsOf ss))
 
 -- The place of refusal 20: the first of these sections that lacks what it requires, the first of them standing at place `at`;
--- where none does, e, the token's length, for the missing section 14. In `finish-refuses-with-20`.
+-- where none does, e, the token's length, for the missing section 14. In `finish-refuses-with-20`, `finish-in-numbers`.
 abbrev pub lackingAt : ℕ → ℕ → List Section → ℕ
 lackingAt e at [] = e
 lackingAt e at (s ∷ ss) =

@@ -2,19 +2,28 @@
 -- walk, which over a legal token are its rows in order and then the end. Assumes nothing.
 use mathlib.Core.Path.{_≡_, refl, sym, ap, _∙_}
 use mathlib.Core.List.{List, [], _∷_}
+use mathlib.Core.Logic.{_↔_, inl, inr}
 use mathlib.Core.Option.{some}
-use mathlib.Core.Bool.{true}
+use mathlib.Core.Bool.{Bool, true, false}
 use Prim.Native.Nat.{ℕ, zero, suc, _+_, _≤_}
+use lib.Dec.{leb}
 use lib.ListN.{length, getElem?}
+use borrow.Author.Tests.{leb-true, leb-false}
 use native.Mathlib.Omega.{arith}
 use denote.Ref.{RefT, now}
+use Rattle.format.specs.Bytes.{Bytes}
 use Rattle.format.specs.Legal.{Legal}
 use Rattle.format.specs.Parts.{size}
-use Rattle.format.specs.Reading.{Fault, refused, reading}
+use Rattle.format.specs.Reading.{Fault, refused, reading, answer}
 use Rattle.format.specs.Table.{Placed, placed}
 use Rattle.format.specs.Views.{stepAt, placeAfter}
+use Rattle.format.specs.GivenNumbers.{numberOf, rowAnswer}
 use Rattle.format.specs.declared.Step.{Step}
 use Rattle.format.specs.declared.Step.the-variants.{Record, End, Stopped}
+use Rattle.format.proofs.Elements.{there}
+use Rattle.format.proofs.Rows.{placed-count}
+use Rattle.format.proofs.Numbering.{fault-number}
+use Rattle.format.proofs.GivenNumbers.{refused-told, first, Judged, judged, own-answer, illegal}
 use Rattle.format.proofs.Walking.{walk-legal, first-place, step-next, step-at-row, step-at-end, step-refused}
 use Rattle.walker.specs.Walking.{stepAfter, Followed}
 use Rattle.walker.specs.declared.Walker.{Walker}
@@ -64,6 +73,46 @@ behind-all bs l k h = behind-at bs 8 k ∙ ap (stepAt bs) (walk-legal bs l k h .
 pub behind-refused : (bs : List ℕ) (f : Fault) (k : ℕ) → reading true bs ≡ refused f
     → stepAfter bs 8 k ≡ Stopped (f .number) (f .part)
 behind-refused bs f k e = behind-at bs 8 k ∙ step-refused bs f (walkPlace k bs 8) e
+
+-- In the paper's numbers, for a row asked for by its number: 0 exactly where a legal token has it, 22 exactly after its last
+-- row, and for an illegal token the number of reading it.
+pub row-in-numbers : (bs : List ℕ) (k : ℕ) → Bytes bs
+    → ((rowAnswer (stepAfter bs 8 k) ≡ 0) ↔ ((l : Legal bs) × ((x : Placed) × IsRow bs l k x)))
+    × ((rowAnswer (stepAfter bs 8 k) ≡ 22) ↔ ((l : Legal bs) × (length (l .parts) ≤ k)))
+    × ((Legal bs → ⊥) → rowAnswer (stepAfter bs 8 k) ≡ numberOf (answer bs))
+unfolding rowAnswer
+row-in-numbers bs k b = (
+  ((λ e. there-at e (judged bs b)), λ w. ap rowAnswer (behind-row bs (w .0) k (w .1 .0) (w .1 .1))),
+  ((λ e. past e (judged bs b)), λ w. ap rowAnswer (behind-all bs (w .0) k (w .1))),
+  λ h. let u = illegal bs b h in ap rowAnswer (behind-refused bs (u .0) k (u .1)) ∙ sym (first (refused-told (own-answer bs (u .0) (u .1)))),
+)
+  where
+    of : (l : Legal bs) (v : Bool) → leb (length (l .parts)) k ≡ v
+        → (rowAnswer (stepAfter bs 8 k) ≡ 0 → (x : Placed) × IsRow bs l k x) × (rowAnswer (stepAfter bs 8 k) ≡ 22 → length (l .parts) ≤ k)
+    of l true q =
+        let h = leb-true (length (l .parts)) k q in
+        let r = ap rowAnswer (behind-all bs l k h) in
+        ((λ e. absurd (omega arith)), λ e. h)
+    of l false q =
+        let h = leb-false (length (l .parts)) k q in
+        let n = placed-count 8 0 0 (l .parts) in
+        let t = there (placed 8 0 0 (l .parts)) k (omega arith) in
+        let r = ap rowAnswer (behind-row bs l k (t .0) (t .1)) in
+        ((λ e. (t .0, t .1)), λ e. absurd (omega arith))
+
+    low : (f : Fault) → reading true bs ≡ refused f → (1 ≤ rowAnswer (stepAfter bs 8 k)) × (rowAnswer (stepAfter bs 8 k) ≤ 21)
+    low f e =
+        let n = ap rowAnswer (behind-refused bs f k e) in
+        let r = fault-number true bs f e in
+        (omega (arith, r), omega (arith, r))
+
+    there-at : rowAnswer (stepAfter bs 8 k) ≡ 0 → Judged bs → (l : Legal bs) × ((x : Placed) × IsRow bs l k x)
+    there-at e (inl l) = (l, of l (leb (length (l .parts)) k) refl .0 e)
+    there-at e (inr w) = absurd (let r = low (w .0) (w .1) in omega (arith, r))
+
+    past : rowAnswer (stepAfter bs 8 k) ≡ 22 → Judged bs → (l : Legal bs) × (length (l .parts) ≤ k)
+    past e (inl l) = (l, of l (leb (length (l .parts)) k) refl .1 e)
+    past e (inr w) = absurd (let r = low (w .0) (w .1) in omega (arith, r))
 
 -- ---- the reader of held bytes
 
