@@ -1,13 +1,14 @@
--- The starred examples hold, and the smallest token is legal.
+-- The starred examples hold, and the smallest token is legal; its listing, and the spring bill's token.
 use mathlib.Core.Path.{_≡_, refl}
 use mathlib.Core.List.{List, [], _∷_, _++_}
 use Prim.Native.Nat.{ℕ, suc}
 use lib.Dec.{lit<, lit≤}
-use lib.ListN.{replicate}
+use lib.ListN.{replicate, set}
 use Rattle.format.specs.Parts.{Part, information, protection}
 use Rattle.format.specs.Legal.{Legal}
 use Rattle.format.specs.Table.{rows}
 use Rattle.format.specs.Lines.{text, firstLine, rowLine}
+use Rattle.format.specs.declared.Answer.the-variants.{Refused}
 use Rattle.format.specs.declared.Row.{Row}
 use Rattle.format.specs.Bytes.{All, number, bytesAt, allZero, sameBytes}
 use Rattle.format.specs.Forms.{ruleIdForm, dateExists}
@@ -37,6 +38,17 @@ pub listing-T :
     ≡ text "token external 80 bytes 2 rows\n0 14 - 8 72 0\n1 14 0001 18 62 0\n"
 unfolding answer asAnswer reading sections section sectionRest afterSubsections subsections subsection tested need andThen number bytesAt allZero sameBytes firstLine rowLine
 listing-T = refl
+
+-- a rule without subsections that states n bytes, its Rule ID one letter
+abbrev ruleStating : ℕ → ℕ → List ℕ
+ruleStating n letter = 0x12 ∷ 0 ∷ 0 ∷ n ∷ letter ∷ replicate 7 32 ++ (0 ∷ 0 ∷ 0 ∷ 0 ∷ 8 ∷ 0 ∷ 0 ∷ 0 ∷ [])
+
+-- The spring bill in small: a rule states 28 bytes, 8 for its transport variant, and the variant states 28, the 20 more looking
+-- like a rule. Read past its section it would be a subsection whose bytes are then read again, as a second rule.
+pub spring-refused :
+    answer (set tokenT 3 128 ++ (ruleStating 28 65 ++ (0 ∷ 1 ∷ 0 ∷ 28 ∷ 0 ∷ 0 ∷ 0 ∷ 20 ∷ ruleStating 20 66))) ≡ Refused 12 100
+unfolding answer asAnswer reading sections section sectionRest afterSubsections subsections subsection tested need andThen number bytesAt allZero sameBytes ruleIdForm
+spring-refused = refl
 
 -- The smallest token is legal, and its parts are those two.
 pub legal-T : Legal tokenT
