@@ -127,23 +127,23 @@ table-exactly bs t n b = (
       told-found rowCount (room bs t l h) ∙ ap Accepted (counts bs l ∙ sym (w .1)),
 )
 
+-- A refusal of reading into a table leaves the table, whatever is made of what is found.
+refused-kept : (g : List Section → List ℕ) (o : Outcome (List Section)) (t : List ℕ) (n p : ℕ) → asAnswer rowCount o ≡ Refused n p
+    → elim o as (λ y. List ℕ) [ refused f ↦ t | found ss ↦ g ss ] ≡ t
+unfolding asAnswer
+refused-kept g (refused f) t n p e = refl
+refused-kept g (found ss) t n p e = absurd (let z : _≡_ {A = ℕ} 0 1 = cc in omega arith)
+
+pub table-kept : (bs t : List ℕ) (n p : ℕ) → tableAnswer bs t ≡ Refused n p → tableAfter bs t ≡ t
+unfolding tableAnswer tableAfter
+table-kept bs t n p e = refused-kept _ (tableReading bs t) t n p e
+
 pub table-holds : (bs t : List ℕ) (l : Legal bs) → columns * length (rows (l .parts)) ≤ length t
     → tableAfter bs t ≡ tableOf (rows (l .parts)) ++ drop (columns * length (rows (l .parts))) t
 unfolding tableAfter
 table-holds bs t l h =
     ap (λ o. elim o as (λ y. List ℕ) [ refused f ↦ t | found ss ↦ tableOf (rows (partsOf ss)) ++ drop (columns * rowCount ss) t ]) (room bs t l h)
     ∙ ap₂ (λ (ps : List Part) (n : ℕ). tableOf (rows ps) ++ drop (columns * n) t) (legal-parts bs l) (counts bs l)
-
--- A refusal of reading into a table leaves the table.
-refused-kept : (o : Outcome (List Section)) (t : List ℕ) (n p : ℕ) → asAnswer rowCount o ≡ Refused n p
-    → elim o as (λ y. List ℕ) [ refused f ↦ t | found ss ↦ tableOf (rows (partsOf ss)) ++ drop (columns * rowCount ss) t ] ≡ t
-unfolding asAnswer
-refused-kept (refused f) t n p e = refl
-refused-kept (found ss) t n p e = absurd (let z : _≡_ {A = ℕ} 0 1 = cc in omega arith)
-
-pub table-kept : (bs t : List ℕ) (n p : ℕ) → tableAnswer bs t ≡ Refused n p → tableAfter bs t ≡ t
-unfolding tableAnswer tableAfter
-table-kept bs t n p e = refused-kept (tableReading bs t) t n p e
 
 -- The refusal 23 is the table's alone: it comes where a token is legal and its rows have no room.
 told-refused : (o : Outcome (List Section)) (n p : ℕ) → asAnswer rowCount o ≡ Refused n p → (f : Fault) × (o ≡ refused f) × (f .number ≡ n) × (place f ≡ p)

@@ -204,6 +204,11 @@ tails : (b : Bool) (m n y : ℕ) → pick b (m + n) 0 ≡ pick b (m + y) 0 → m
 tails false m n y p q = omega arith
 tails true m n y p q = omega arith
 
+-- The same of the parts themselves.
+span-tells : (p : Part) (ps qs : List Part) → subsectionsLength (p ∷ ps) ≡ subsectionsLength (p ∷ qs) → span p ps ≡ span p qs
+    → subsectionsLength ps ≡ subsectionsLength qs
+span-tells p ps qs l e = tails (isSubsection (p .kind)) (size p) (subsectionsLength ps) (subsectionsLength qs) l e
+
 -- Parts are written in bytes, four at least for the first.
 some-bytes : (p : Part) (ps : List Part) → 4 ≤ length (writeParts (p ∷ ps))
 some-bytes p ps =
@@ -225,7 +230,7 @@ parts-inj (p ∷ ps) (q ∷ qs) o h k l e =
     let d = sides b (isSubsection (q .kind)) (size p) n (size q) m (size-pos p) (size-pos q) l in
     let i = part-told p q o (span p ps) (span q qs) (writeParts ps) (writeParts qs) d (h .0) (k .0) (h .1) (k .1) e in
     let g : p ≡ q = i .0 in
-    let x : n ≡ m = tails b (size p) n m (rw (← g) at l) (rw (← g) at (i .2)) in
+    let x : n ≡ m = span-tells p ps qs (rw (← g) at l) (rw (← g) at (i .2)) in
     ap₂ (λ y z. y ∷ z) g (parts-inj ps qs (sectionId (p .kind)) (h .2) (rw (← g) at (k .2)) x (i .1))
 
 -- A part before which no section stands is no subsection.
@@ -252,8 +257,8 @@ pub one-choice :
 one-choice i j ps qs bs h k =
     let n = 8 + length (writeParts ps) in
     let m = 8 + length (writeParts qs) in
-    let a = header-fits i ps (h .whole) in
-    let b = header-fits j qs (k .whole) in
+    let a = header-fits i ps (let w = h .whole in omega arith) in
+    let b = header-fits j qs (let w = k .whole in omega arith) in
     let e = h .same ∙ sym (k .same) in
     let c = write-inj header n m [] ((i ∷ []) ∷ []) ((j ∷ []) ∷ []) (writeParts ps) (writeParts qs) a b e in
     let f = fit-parts ps 0 (h .choice .fit) (h .choice .joined) (h .parts) in
