@@ -30,6 +30,7 @@ use Rattle.format.proofs.Runs as Runs
 use Rattle.format.proofs.Rows as Rows
 use Rattle.format.proofs.Tables as Tables
 use Rattle.format.proofs.Tiling as Tiling
+use Rattle.format.proofs.Owners as Owners
 use Rattle.format.proofs.Viewing as Viewing
 use Rattle.format.proofs.Walking as Walking
 use Rattle.format.proofs.Writing as Writing
@@ -96,6 +97,17 @@ rows-tile bs l = Tiling.rows-tile bs l
 pub row-bytes : (bs : List ℕ) (l : Legal bs) (k : ℕ) (x : Placed) → IsRow bs l k x
     → bytesAt bs (x .row .offset) (x .row .length) ≡ writeParts (x .part ∷ subsOf (x .part) (drop (suc k) (l .parts)))
 row-bytes bs l k x r = Tiling.row-bytes bs l k x r
+
+-- "row of the owning section (its own for a section)": the owner of a section's row is that row, and the owner of any row is
+-- the row of a section which covers it.
+pub owner-of-a-row : (bs : List ℕ) (l : Legal bs) (k : ℕ) (x : Placed) → IsRow bs l k x
+    → (isSubsection (x .part .kind) ≡ false → x .row .owner ≡ k)
+    × ((y : Placed)
+    × IsRow bs l (x .row .owner) y
+    × (isSubsection (y .part .kind) ≡ false)
+    × (y .row .offset ≤ x .row .offset)
+    × (x .row .offset + x .row .length ≤ y .row .offset + y .row .length))
+owner-of-a-row bs l k x r = Owners.row-owner bs l k x r
 
 -- Refusal and legality exclude each other.
 pub legal-not-refused : (bs : List ℕ) → Legal bs → (n p : ℕ) → answer bs ≡ Refused n p → ⊥

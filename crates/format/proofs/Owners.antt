@@ -190,3 +190,25 @@ owner-covers bs l k x y e s f =
     let px = rx .place in
     let py = ry .place in
     (r, omega arith)
+
+-- The owner of a row is its own row for a section, and for any row that of a section which covers it.
+pub row-owner : (bs : List ℕ) (l : Legal bs) (k : ℕ) (x : Placed) → IsRow bs l k x
+    → (isSubsection (x .part .kind) ≡ false → x .row .owner ≡ k)
+    × ((y : Placed)
+    × IsRow bs l (x .row .owner) y
+    × (isSubsection (y .part .kind) ≡ false)
+    × (y .row .offset ≤ x .row .offset)
+    × (x .row .offset + x .row .length ≤ y .row .offset + y .row .length))
+row-owner bs l k x e = (section-owner (l .parts) k x e, go (isSubsection (x .part .kind)) refl)
+  where
+    go : (b : Bool) → isSubsection (x .part .kind) ≡ b
+        → (y : Placed)
+        × IsRow bs l (x .row .owner) y
+        × (isSubsection (y .part .kind) ≡ false)
+        × (y .row .offset ≤ x .row .offset)
+        × (x .row .offset + x .row .length ≤ y .row .offset + y .row .length)
+    go true s =
+        let y = subsection-owner bs l k x e s .section in
+        let c = owner-covers bs l k x (y .0) e s (y .1) in
+        (y .0, y .1, y .2, (let h = c .0 in omega arith), c .1)
+    go false s = (x, subst (λ (m : ℕ). IsRow bs l m x) (sym (section-owner (l .parts) k x e s)) e, s, omega arith, omega arith)

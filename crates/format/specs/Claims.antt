@@ -36,8 +36,7 @@ stepNumbers s = stepNumber s ∷ stepSecond s ∷ rowKind s ∷ rowOffset s ∷ 
 
 -- ---- rows
 
--- Row number k of the token is x. In `row-bytes`, `view-of-a-field`, `row-gives-its-fields`, `views-tile-the-row`,
--- `fields-are-views`, `no-such-field`, `no-row-begins-there`.
+-- Row number k of the token is x. In `row-bytes`, `owner-of-a-row`, and in what is said of views and of steps at a row.
 abbrev pub IsRow : (bs : List ℕ) → Legal bs → ℕ → Placed → Type 0
 IsRow bs l k x = getElem? (placed 8 0 0 (l .parts)) k ≡ some x
 
