@@ -19,6 +19,8 @@ pub mod library;
 pub mod library_writer;
 /// The listing of a token.
 pub mod listing;
+/// The names in a document that are not there.
+pub mod names;
 /// Parts with their fields, and the written form of a choice of parts.
 pub mod parts;
 /// A small generator of repeatable random numbers.

@@ -2,9 +2,9 @@
 
 mod common;
 
+use common::folder::Folder;
 use common::{list_token, project};
-use std::fs::{create_dir_all, read, read_to_string, remove_dir_all, write, File};
-use std::path::PathBuf;
+use std::fs::{create_dir_all, read, read_to_string, File};
 use std::process::{Command, Stdio};
 use std::sync::Once;
 use trusted_block_tests::sample_files::samples;
@@ -36,30 +36,6 @@ fn list_with(words: &[&str], input: Stdio, output: Stdio) -> (i32, String, Strin
 fn sample(name: &str) -> String {
     let file = project().join("samples").join(name);
     file.into_os_string().into_string().expect("plain")
-}
-
-/// A folder for one test's own files, removed at its end.
-struct Folder(PathBuf);
-
-impl Folder {
-    fn new(name: &str) -> Folder {
-        let folder = format!("list-{}-{name}", std::process::id());
-        let folder = std::env::temp_dir().join(folder);
-        create_dir_all(&folder).expect("a folder can be made");
-        Folder(folder)
-    }
-
-    fn file(&self, name: &str, bytes: &[u8]) -> String {
-        let file = self.0.join(name);
-        write(&file, bytes).expect("a file can be written");
-        file.into_os_string().into_string().expect("plain")
-    }
-}
-
-impl Drop for Folder {
-    fn drop(&mut self) {
-        let _ = remove_dir_all(&self.0);
-    }
 }
 
 #[test]

@@ -1,6 +1,7 @@
 //! What several tests share: samples, the readings side by side, tallies.
 #![allow(dead_code, unused_imports)]
 
+pub mod folder;
 pub mod twins;
 
 use std::path::{Path, PathBuf};
