@@ -145,7 +145,10 @@ fn every_row_number_of_legal_tokens() {
     }
     println!("{seen:?}");
     seen.assert_every_kind(100);
-    assert!(seen.ends == 0 && seen.refusals.numbers[22] > 3000, "{seen:?}");
+    assert!(
+        seen.ends == 0 && seen.refusals.numbers[22] > 3000,
+        "{seen:?}"
+    );
 }
 
 /// Every place of some, a few places and row numbers of each.

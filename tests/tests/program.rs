@@ -3,41 +3,15 @@
 
 mod common;
 
+use common::program::run;
 use common::{list_token, smallest_token, token_of_all_kinds};
 use std::fs::{remove_file, write, File};
-use std::io::{ErrorKind, Write};
-use std::process::{ChildStdin, Command, Output, Stdio};
-use std::thread::sleep;
+use std::process::{Command, Output};
 use std::time::Duration;
 use trusted_block_tests::generate::damage::{damaged, from_nothing};
 use trusted_block_tests::generate::legal::{legal, of_length, with_bare_rules, with_most_rows};
 use trusted_block_tests::listing::program_output;
 use trusted_block_tests::random::Random;
-
-/// The program has read what it wants when its input is closed to us.
-fn send(input: &mut ChildStdin, bytes: &[u8]) {
-    if let Err(error) = input.write_all(bytes) {
-        assert_eq!(error.kind(), ErrorKind::BrokenPipe);
-    }
-}
-
-/// Runs the program, its input in pieces of `piece` bytes with a pause after
-/// each.
-fn run(input: &[u8], piece: usize, pause: Duration) -> Output {
-    let mut child = Command::new(list_token())
-        .stdin(Stdio::piped())
-        .stdout(Stdio::piped())
-        .stderr(Stdio::piped())
-        .spawn()
-        .expect("the program runs");
-    let mut stdin = child.stdin.take().expect("it is piped");
-    for bytes in input.chunks(piece) {
-        send(&mut stdin, bytes);
-        sleep(pause);
-    }
-    drop(stdin);
-    child.wait_with_output().expect("the program ends")
-}
 
 /// The whole output, nothing on standard error, and status 0.
 fn compare(output: &Output, input: &[u8]) {
@@ -48,7 +22,7 @@ fn compare(output: &Output, input: &[u8]) {
 }
 
 fn try_input(input: &[u8]) {
-    let output = run(input, input.len().max(1), Duration::ZERO);
+    let output = run(&list_token(), input, input.len().max(1), Duration::ZERO);
     compare(&output, input);
 }
 
@@ -113,11 +87,11 @@ fn input_in_small_pieces() {
     for _ in 0..12 {
         let token = legal(&mut random).bytes;
         let piece = random.between(token.len() / 20 + 1, token.len() / 5 + 1);
-        compare(&run(&token, piece, pause), &token);
+        compare(&run(&list_token(), &token, piece, pause), &token);
     }
     let token = smallest_token();
-    compare(&run(&token, 1, pause), &token);
-    compare(&run(&token, 7, pause), &token);
+    compare(&run(&list_token(), &token, 1, pause), &token);
+    compare(&run(&list_token(), &token, 7, pause), &token);
 }
 
 #[test]

@@ -2,6 +2,7 @@
 #![allow(dead_code, unused_imports)]
 
 pub mod folder;
+pub mod program;
 pub mod twins;
 
 use std::path::{Path, PathBuf};
@@ -22,16 +23,26 @@ pub fn project() -> PathBuf {
     package.parent().expect("tests/ stands in it").to_path_buf()
 }
 
-/// The program, which `rt check list_token` makes. LIST_TOKEN names another.
-pub fn list_token() -> PathBuf {
-    let built = project().join("target/bin/list_token");
-    let program = std::env::var_os("LIST_TOKEN").map_or(built, PathBuf::from);
+/// A program, which `rt check` makes; the variable names another.
+fn built(name: &str, variable: &str) -> PathBuf {
+    let built = project().join("target/bin").join(name);
+    let program = std::env::var_os(variable).map_or(built, PathBuf::from);
     assert!(
         program.is_file(),
-        "{} is missing: run `rt check list_token` in the project's folder first",
+        "{} is missing: run `rt check {name}` in the project's folder first",
         program.display()
     );
     program
+}
+
+/// The program that lists a token. LIST_TOKEN names another.
+pub fn list_token() -> PathBuf {
+    built("list_token", "LIST_TOKEN")
+}
+
+/// The program that builds a token again. REBUILD_TOKEN names another.
+pub fn rebuild_token() -> PathBuf {
+    built("rebuild_token", "REBUILD_TOKEN")
 }
 
 /// How many tokens the generated tests take together.

@@ -12,7 +12,7 @@ two-requires c κs =
 
 -- src/header.rt:28:9
 returns : tie.Need-returns
-returns c = length-above (c .before .before .before .args .full) _ (c .before .two .ensures .0) (c .if1 .taken)
+returns c = length-above (c .before .before .before .args .full) _ (c .before .two .ensures .0) (omega arith)
 
 -- src/header.rt:31:9
 returns-2 : tie.Need-returns-2
@@ -20,7 +20,7 @@ returns-2 c = length-full _ (c .before .before .two .ensures .0) (c .before .if1
 
 -- src/header.rt:34:9
 returns-3 : tie.Need-returns-3
-returns-3 c = length-below _ (c .before .before .before .two .ensures .0) (c .if3 .taken) (c .before .if2 .left)
+returns-3 c = length-below _ (c .before .before .before .two .ensures .0) (omega arith) (c .before .if2 .left)
 
 -- src/header.rt:22:1
 returns-4 : tie.Need-returns-4

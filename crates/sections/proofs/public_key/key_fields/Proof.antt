@@ -21,7 +21,7 @@ returns-2 c =
     λ b f q g.
     let e = c .before .before .before .before .args .exponent .now in
     let m = c .before .before .before .before .args .modulus .now in
-    stop _ _ (x-high e (c .before .if1 .left) (c .if2 .taken))
+    stop _ _ (x-high e (c .before .if1 .left) (omega arith))
 
 returns-3 : tie.Need-returns-3
 returns-3 c =
