@@ -1,6 +1,6 @@
 -- The rows of a legal token as additions: their views are the fields of their parts, and what is left to add makes the
 -- whole token.
-use mathlib.Core.Path.{_≡_, refl, sym, ap, _∙_, subst}
+use mathlib.Core.Path.{_≡_, refl, sym, ap, ap₂, _∙_, subst}
 use mathlib.Core.Bool.{true, false, not}
 use mathlib.Core.List.{List, [], _∷_, _++_}
 use mathlib.Core.Logic.{_⊎_, ⊎-elim}
@@ -140,6 +140,10 @@ no-other-kind {n} j e d =
 -- A row that some part stands for stands for one of the kind that the step tells.
 pub of-kind : {bs : List ℕ} {k n : ℕ} (j : Kind) (w : IsThere bs k) → n ≡ kindNumber (w .part .kind) → n ≡ kindNumber j → RowOfKind bs k j
 of-kind j w a b = record { part = w .part; row = w .row; kind = number-told (w .part .kind) j (sym a ∙ b) }
+
+-- Fields are the same where the first ones are and the others are.
+pub and-fields : {f g : List ℕ} {fs gs : Fields} → f ≡ g → fs ≡ gs → f ∷ fs ≡ g ∷ gs
+and-fields e es = ap₂ (λ (f : List ℕ) (fs : Fields). f ∷ fs) e es
 
 -- Two lists of fields that are the same are added alike.
 pub same-added : {a : Answer} {x : List ℕ} (d : List ℕ) (j : Kind) (fs gs : Fields)

@@ -1,6 +1,7 @@
 -- The fields that are lent are the row's views.
+use mathlib.Core.Path.{refl}
 use Rattle.format.specs.Parts.{applicationData}
-use Rattle.rebuild.proofs.Laws.{same-added}
+use Rattle.rebuild.proofs.Laws.{and-fields, same-added}
 use borrow.Author.Needs.{needs}
 use Rattle.rebuild.proofs.sections.application_data.Statement.{statement}
 use Rattle.rebuild.proofs.sections.application_data.Tie as tie
@@ -17,7 +18,7 @@ same-length c = search needs
 returns : tie.Need-returns
 returns c =
     same-added _ applicationData _ _ (c .before .before .application-data .ensures)
-    (cc (c .before .before .before .before .view .ensures))
+    (and-fields (c .before .before .before .before .view .ensures) refl)
 
 pub application-data-spec : {M : Type 1} → statement M
 application-data-spec =

@@ -1,7 +1,8 @@
 -- The fields that are lent are the row's views.
+use mathlib.Core.Path.{refl}
 use native.Mathlib.Omega.{arith}
 use Rattle.format.specs.Parts.{information}
-use Rattle.rebuild.proofs.Laws.{fitting, same-added}
+use Rattle.rebuild.proofs.Laws.{fitting, and-fields, same-added}
 use borrow.Author.Needs.{needs}
 use Rattle.rebuild.proofs.sections.information.Statement.{statement}
 use Rattle.rebuild.proofs.sections.information.Tie as tie
@@ -18,7 +19,7 @@ same-length c = search needs
 returns : tie.Need-returns
 returns c =
     same-added _ information _ _ (c .before .before .information .ensures)
-    (cc (c .before .before .before .before .four-of .ensures))
+    (and-fields (c .before .before .before .before .four-of .ensures) refl)
 
 pub information-spec : {M : Type 1} → statement M
 information-spec = tie.close (tie.spec four-of-requires information-requires same-length returns)

@@ -1,6 +1,7 @@
 -- The fields that are lent are the row's views.
+use mathlib.Core.Path.{refl}
 use Rattle.format.specs.Parts.{name}
-use Rattle.rebuild.proofs.Laws.{same-added}
+use Rattle.rebuild.proofs.Laws.{and-fields, same-added}
 use borrow.Author.Needs.{needs}
 use Rattle.rebuild.proofs.sections.name.Statement.{statement}
 use Rattle.rebuild.proofs.sections.name.Tie as tie
@@ -17,7 +18,7 @@ same-length c = search needs
 returns : tie.Need-returns
 returns c =
     same-added _ name _ _ (c .before .before .name .ensures)
-    (cc (c .before .before .before .before .view .ensures))
+    (and-fields (c .before .before .before .before .view .ensures) refl)
 
 pub name-spec : {M : Type 1} → statement M
 name-spec = tie.close (tie.spec view-requires name-requires same-length returns)

@@ -1,7 +1,8 @@
 -- The fields that are lent are the row's views.
+use mathlib.Core.Path.{refl}
 use native.Mathlib.Omega.{arith}
 use Rattle.format.specs.Parts.{publicKey}
-use Rattle.rebuild.proofs.Laws.{fitting, same-added}
+use Rattle.rebuild.proofs.Laws.{fitting, and-fields, same-added}
 use borrow.Author.Needs.{needs}
 use Rattle.rebuild.proofs.sections.public_key.Statement.{statement}
 use Rattle.rebuild.proofs.sections.public_key.Tie as tie
@@ -27,7 +28,10 @@ same-length c = search needs
 returns : tie.Need-returns
 returns c =
     same-added _ publicKey _ _ (c .before .before .public-key .ensures)
-    (cc (c .before .before .before .before .before .before .before .two-of .ensures, c .before .before .before .before .before .before .view .ensures, c .before .before .before .before .before .view2 .ensures, c .before .before .before .before .four-of .ensures))
+    (and-fields (c .before .before .before .before .before .before .before .two-of .ensures)
+    (and-fields (c .before .before .before .before .before .before .view .ensures)
+    (and-fields (c .before .before .before .before .before .view2 .ensures)
+    (and-fields (c .before .before .before .before .four-of .ensures) refl))))
 
 pub public-key-spec : {M : Type 1} → statement M
 public-key-spec =

@@ -1,7 +1,8 @@
 -- The fields that are lent are the row's views.
+use mathlib.Core.Path.{refl}
 use native.Mathlib.Omega.{arith}
 use Rattle.format.specs.Parts.{rule}
-use Rattle.rebuild.proofs.Laws.{fitting, same-added}
+use Rattle.rebuild.proofs.Laws.{fitting, and-fields, same-added}
 use borrow.Author.Needs.{needs}
 use Rattle.rebuild.proofs.sections.rule.Statement.{statement}
 use Rattle.rebuild.proofs.sections.rule.Tie as tie
@@ -33,7 +34,12 @@ same-length c = search needs
 returns : tie.Need-returns
 returns c =
     same-added _ rule _ _ (c .before .before .rule .ensures)
-    (cc (c .before .before .before .before .before .before .before .before .before .view .ensures, c .before .before .before .before .before .before .before .before .four-of .ensures, c .before .before .before .before .before .before .before .one-of .ensures, c .before .before .before .before .before .before .one-of2 .ensures, c .before .before .before .before .before .one-of3 .ensures, c .before .before .before .before .one-of4 .ensures))
+    (and-fields (c .before .before .before .before .before .before .before .before .before .view .ensures)
+    (and-fields (c .before .before .before .before .before .before .before .before .four-of .ensures)
+    (and-fields (c .before .before .before .before .before .before .before .one-of .ensures)
+    (and-fields (c .before .before .before .before .before .before .one-of2 .ensures)
+    (and-fields (c .before .before .before .before .before .one-of3 .ensures)
+    (and-fields (c .before .before .before .before .one-of4 .ensures) refl))))))
 
 pub rule-spec : {M : Type 1} → statement M
 rule-spec =

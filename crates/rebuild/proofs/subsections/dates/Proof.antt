@@ -1,7 +1,8 @@
 -- The fields that are lent are the row's views.
+use mathlib.Core.Path.{refl}
 use native.Mathlib.Omega.{arith}
 use Rattle.format.specs.Parts.{dates}
-use Rattle.rebuild.proofs.Laws.{fitting, same-added}
+use Rattle.rebuild.proofs.Laws.{fitting, and-fields, same-added}
 use borrow.Author.Needs.{needs}
 use Rattle.rebuild.proofs.subsections.dates.Statement.{statement}
 use Rattle.rebuild.proofs.subsections.dates.Tie as tie
@@ -24,7 +25,9 @@ same-length c = search needs
 returns : tie.Need-returns
 returns c =
     same-added _ dates _ _ (c .before .before .dates .ensures)
-    (cc (c .before .before .before .before .before .before .two-of .ensures, c .before .before .before .before .before .view .ensures, c .before .before .before .before .view2 .ensures))
+    (and-fields (c .before .before .before .before .before .before .two-of .ensures)
+    (and-fields (c .before .before .before .before .before .view .ensures)
+    (and-fields (c .before .before .before .before .view2 .ensures) refl)))
 
 pub dates-spec : {M : Type 1} → statement M
 dates-spec =

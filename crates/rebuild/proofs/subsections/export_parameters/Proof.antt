@@ -1,7 +1,8 @@
 -- The fields that are lent are the row's views.
+use mathlib.Core.Path.{refl}
 use native.Mathlib.Omega.{arith}
 use Rattle.format.specs.Parts.{exportParameters}
-use Rattle.rebuild.proofs.Laws.{fitting, same-added}
+use Rattle.rebuild.proofs.Laws.{fitting, and-fields, same-added}
 use borrow.Author.Needs.{needs}
 use Rattle.rebuild.proofs.subsections.export_parameters.Statement.{statement}
 use Rattle.rebuild.proofs.subsections.export_parameters.Tie as tie
@@ -27,7 +28,10 @@ same-length c = search needs
 returns : tie.Need-returns
 returns c =
     same-added _ exportParameters _ _ (c .before .before .export-parameters .ensures)
-    (cc (c .before .before .before .before .before .before .before .one-of .ensures, c .before .before .before .before .before .before .one-of2 .ensures, c .before .before .before .before .before .view .ensures, c .before .before .before .before .view2 .ensures))
+    (and-fields (c .before .before .before .before .before .before .before .one-of .ensures)
+    (and-fields (c .before .before .before .before .before .before .one-of2 .ensures)
+    (and-fields (c .before .before .before .before .before .view .ensures)
+    (and-fields (c .before .before .before .before .view2 .ensures) refl))))
 
 pub export-parameters-spec : {M : Type 1} → statement M
 export-parameters-spec =

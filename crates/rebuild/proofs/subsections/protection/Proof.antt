@@ -1,6 +1,7 @@
 -- The fields that are lent are the row's views.
+use mathlib.Core.Path.{refl}
 use Rattle.format.specs.Parts.{protection}
-use Rattle.rebuild.proofs.Laws.{same-added}
+use Rattle.rebuild.proofs.Laws.{and-fields, same-added}
 use borrow.Author.Needs.{needs}
 use Rattle.rebuild.proofs.subsections.protection.Statement.{statement}
 use Rattle.rebuild.proofs.subsections.protection.Tie as tie
@@ -23,7 +24,9 @@ same-length c = search needs
 returns : tie.Need-returns
 returns c =
     same-added _ protection _ _ (c .before .before .protection .ensures)
-    (cc (c .before .before .before .before .before .before .view .ensures, c .before .before .before .before .before .view2 .ensures, c .before .before .before .before .view3 .ensures))
+    (and-fields (c .before .before .before .before .before .before .view .ensures)
+    (and-fields (c .before .before .before .before .before .view2 .ensures)
+    (and-fields (c .before .before .before .before .view3 .ensures) refl)))
 
 pub protection-spec : {M : Type 1} → statement M
 protection-spec =

@@ -1,6 +1,7 @@
 -- The fields that are lent are the row's views.
+use mathlib.Core.Path.{refl}
 use Rattle.format.specs.Parts.{tokenParameters}
-use Rattle.rebuild.proofs.Laws.{same-added}
+use Rattle.rebuild.proofs.Laws.{and-fields, same-added}
 use borrow.Author.Needs.{needs}
 use Rattle.rebuild.proofs.subsections.token_parameters.Statement.{statement}
 use Rattle.rebuild.proofs.subsections.token_parameters.Tie as tie
@@ -23,7 +24,9 @@ same-length c = search needs
 returns : tie.Need-returns
 returns c =
     same-added _ tokenParameters _ _ (c .before .before .token-parameters .ensures)
-    (cc (c .before .before .before .before .before .before .view .ensures, c .before .before .before .before .before .view2 .ensures, c .before .before .before .before .view3 .ensures))
+    (and-fields (c .before .before .before .before .before .before .view .ensures)
+    (and-fields (c .before .before .before .before .before .view2 .ensures)
+    (and-fields (c .before .before .before .before .view3 .ensures) refl)))
 
 pub token-parameters-spec : {M : Type 1} → statement M
 token-parameters-spec =

@@ -1,6 +1,7 @@
 -- The fields that are lent are the row's views.
+use mathlib.Core.Path.{refl}
 use Rattle.format.specs.Parts.{transportVariant}
-use Rattle.rebuild.proofs.Laws.{same-added}
+use Rattle.rebuild.proofs.Laws.{and-fields, same-added}
 use borrow.Author.Needs.{needs}
 use Rattle.rebuild.proofs.subsections.transport_variant.Statement.{statement}
 use Rattle.rebuild.proofs.subsections.transport_variant.Tie as tie
@@ -17,7 +18,7 @@ same-length c = search needs
 returns : tie.Need-returns
 returns c =
     same-added _ transportVariant _ _ (c .before .before .transport-variant .ensures)
-    (cc (c .before .before .before .before .view .ensures))
+    (and-fields (c .before .before .before .before .view .ensures) refl)
 
 pub transport-variant-spec : {M : Type 1} → statement M
 transport-variant-spec =
