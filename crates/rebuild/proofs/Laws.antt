@@ -45,7 +45,7 @@ use Rattle.walker.specs.Walking.{stepAfter}
 use Rattle.walker.proofs.Main.{behind-row}
 use Rattle.rebuild.specs.Rebuilding.{rebuilt}
 use Rattle.rebuild.proofs.Main.{gives-back, without-room, own-fault}
-use Rattle.rebuild.specs.Rows.{RowOf, RowOfKind, IsThere, HasRows, viewsOf}
+use Rattle.rebuild.specs.Rows.{RowOf, RowOfKind, IsThere, HasKind, HasRows, viewsOf, Adds, AddsViews, AddsRow}
 
 -- ---- the views of a row
 
@@ -101,7 +101,7 @@ at-row {bs} {k} p r =
       ),
     )
 
-pub told-kind : {bs : List ℕ} {k m : ℕ} {x : Row} (p : Part) → RowOf bs k p → Record x m ≡ stepAfter bs 8 k
+told-kind : {bs : List ℕ} {k m : ℕ} {x : Row} (p : Part) → RowOf bs k p → Record x m ≡ stepAfter bs 8 k
     → x .kind ≡ kindNumber (p .kind)
 told-kind {bs} {k} {m} {x} p r e =
     let w = at-row p r in
@@ -111,11 +111,14 @@ told-kind {bs} {k} {m} {x} p r e =
     record-inj : {y z : Row} {i j : ℕ} → Record y i ≡ Record z j → y ≡ z
     record-inj h = cc
 
+pub kind-told : {bs : List ℕ} {k m : ℕ} {x : Row} → IsThere bs k → Record x m ≡ stepAfter bs 8 k → HasKind bs k (x .kind)
+kind-told w e = record { there = w; told = λ p r. told-kind p r e }
+
 -- It is no other step,
-pub no-other-step : {bs : List ℕ} {k : ℕ} {s : Step} (p : Part) → RowOf bs k p → s ≡ stepAfter bs 8 k
+pub no-other-step : {bs : List ℕ} {k : ℕ} {s : Step} → IsThere bs k → s ≡ stepAfter bs 8 k
     → (tagOf the-type s ≡ 1) ⊎ (tagOf the-type s ≡ 2) → ⊥
-no-other-step {bs} {k} {s} p r e t =
-    let w = at-row p r in
+no-other-step {bs} {k} {s} h e t =
+    let w = at-row (h .part) (h .row) in
     let z : tagOf the-type s ≡ 0 = ap (tagOf the-type) (e ∙ w .1 .1 .0) in
     ⊎-elim (λ a. omega arith) (λ a. omega arith) t
 
@@ -130,38 +133,35 @@ no-arm n A (k ∷ ks) d =
     let i = no-arm n (A × (n ≡ kindNumber k → ⊥)) ks d in
     (i .0 .0, and-join _ _ (ap not (ne-eqb n (kindNumber k) (i .0 .1))) (i .1))
 
-pub no-other-kind : {n : ℕ} (j : Kind) → n ≡ kindNumber j → NoArm n (Unit {0}) kinds → ⊥
-no-other-kind {n} j e d =
+pub no-other-kind : {bs : List ℕ} {k n : ℕ} → HasKind bs k n → NoArm n (Unit {0}) kinds → ⊥
+no-other-kind {bs} {k} {n} w d =
+    let j = w .there .part .kind in
+    let e = w .told (w .there .part) (w .there .row) in
     let f = every-kind (λ (i : Kind). not (eqb n (kindNumber i))) (no-arm n (Unit {0}) kinds d .1) j in
     let g : eqb n (kindNumber j) ≡ true = eq-eqb n (kindNumber j) e in
     let z : false ≡ true = ap not (sym g) ∙ f in
     absurd (let y : _≡_ {A = ℕ} 0 1 = cc in omega arith)
 
 -- A row that some part stands for stands for one of the kind that the step tells.
-pub of-kind : {bs : List ℕ} {k n : ℕ} (j : Kind) (w : IsThere bs k) → n ≡ kindNumber (w .part .kind) → n ≡ kindNumber j → RowOfKind bs k j
-of-kind j w a b = record { part = w .part; row = w .row; kind = number-told (w .part .kind) j (sym a ∙ b) }
+pub of-kind : {bs : List ℕ} {k n : ℕ} (j : Kind) (w : HasKind bs k n) → n ≡ kindNumber j → RowOfKind bs k j
+of-kind j w e =
+    let p = w .there in
+    record { part = p .part; row = p .row; kind = number-told (p .part .kind) j (sym (w .told (p .part) (p .row)) ∙ e) }
 
 -- Fields are the same where the first ones are and the others are.
 pub and-fields : {f g : List ℕ} {fs gs : Fields} → f ≡ g → fs ≡ gs → f ∷ fs ≡ g ∷ gs
 and-fields e es = ap₂ (λ (f : List ℕ) (fs : Fields). f ∷ fs) e es
 
 -- Two lists of fields that are the same are added alike.
-pub same-added : {a : Answer} {x : List ℕ} (d : List ℕ) (j : Kind) (fs gs : Fields)
-    → (a ≡ writeAnswer (addition j fs d)) × (x ≡ draftAfter (addition j fs d) d) → fs ≡ gs
-    → (a ≡ writeAnswer (addition j gs d)) × (x ≡ draftAfter (addition j gs d) d)
-same-added {a} {x} d j fs gs w e =
-    subst (λ (hs : Fields). (a ≡ writeAnswer (addition j hs d)) × (x ≡ draftAfter (addition j hs d) d)) e w
+pub same-added : {a : Answer} {x : List ℕ} (d : List ℕ) (j : Kind) (fs gs : Fields) → Adds j fs d a x → fs ≡ gs → Adds j gs d a x
+same-added {a} {x} d j fs gs w e = subst (λ (hs : Fields). Adds j hs d a x) e w
 
 -- What is said of a row's views is said of its part.
-pub of-part : {bs : List ℕ} {k n : ℕ} {a : Answer} {x : List ℕ} (d : List ℕ) (j : Kind) (p : Part) → RowOf bs k p
-    → n ≡ kindNumber (p .kind) → n ≡ kindNumber j
-    → (a ≡ writeAnswer (addition j (viewsOf bs k j) d)) × (x ≡ draftAfter (addition j (viewsOf bs k j) d) d)
-    → (a ≡ writeAnswer (addition (p .kind) (p .fields) d)) × (x ≡ draftAfter (addition (p .kind) (p .fields) d) d)
-of-part {bs} {k} {n} {a} {x} d j p r m e w =
-    let q : j ≡ p .kind = number-told j (p .kind) (sym e ∙ m) in
-    same-added d (p .kind) (viewsOf bs k (p .kind)) (p .fields)
-    (subst (λ (i : Kind). (a ≡ writeAnswer (addition i (viewsOf bs k i) d)) × (x ≡ draftAfter (addition i (viewsOf bs k i) d) d)) q w)
-    (sym (part-views p r))
+pub of-part : {bs : List ℕ} {k n : ℕ} {a : Answer} {x : List ℕ} (d : List ℕ) (j : Kind) → HasKind bs k n → n ≡ kindNumber j
+    → AddsViews bs k j d a x → AddsRow bs k d a x
+of-part {bs} {k} {n} {a} {x} d j h e w p r =
+    let q : j ≡ p .kind = number-told j (p .kind) (sym e ∙ h .told p r) in
+    same-added d (p .kind) (viewsOf bs k (p .kind)) (p .fields) (subst (λ (i : Kind). AddsViews bs k i d a x) q w) (sym (part-views p r))
 
 -- ---- the rows one after another
 
@@ -185,8 +185,7 @@ module _ {bs : List ℕ} {n k : ℕ} (h : HasRows bs n) (lt : k < n) where
 
   -- Where all parts that are left are added by the definition, the call for the next one is accepted, and the rest is left.
   pub one-added : {a : Answer} {x : List ℕ} (d : List ℕ) (l : Legal bs) (e : List ℕ) → additions (drop k (l .parts)) d ≡ found e
-      → ((p : Part) → RowOf bs k p
-      → (a ≡ writeAnswer (addition (p .kind) (p .fields) d)) × (x ≡ draftAfter (addition (p .kind) (p .fields) d) d))
+      → AddsRow bs k d a x
       → ((m : ℕ) × (a ≡ Accepted m)) × (additions (drop (k + 1) (l .parts)) x ≡ found e)
   unfolding additions asAnswer
   one-added {a} {x} d l e s f =

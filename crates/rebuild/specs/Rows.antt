@@ -4,10 +4,12 @@ use mathlib.Core.List.{List}
 use Prim.Native.Nat.{ℕ}
 use lib.ListN.{length}
 use Rattle.format.specs.Layout.{Fields}
-use Rattle.format.specs.Parts.{Kind, layout, Part}
+use Rattle.format.specs.Parts.{Kind, kindNumber, layout, Part}
 use Rattle.format.specs.Legal.{Legal}
 use Rattle.format.specs.Table.{Placed}
+use Rattle.format.specs.Writer.{writeAnswer, draftAfter, addition}
 use Rattle.format.specs.Claims.{IsRow, chosenViews}
+use Rattle.format.specs.declared.Answer.{Answer}
 
 -- row number k of the legal token stands for the part p
 pub record RowOf (bs : List ℕ) (k : ℕ) (p : Part) : Type 0 where
@@ -27,6 +29,11 @@ pub record IsThere (bs : List ℕ) (k : ℕ) : Type 0 where
   pub part : Part
   pub row : RowOf bs k part
 
+-- some part, and n is the number of its kind
+pub record HasKind (bs : List ℕ) (k n : ℕ) : Type 0 where
+  pub there : IsThere bs k
+  pub told : (p : Part) → RowOf bs k p → n ≡ kindNumber (p .kind)
+
 -- the token is legal and has n rows
 pub record HasRows (bs : List ℕ) (n : ℕ) : Type 0 where
   pub legal : Legal bs
@@ -35,3 +42,15 @@ pub record HasRows (bs : List ℕ) (n : ℕ) : Type 0 where
 -- the views of the chosen fields of row k, whose part has this kind
 abbrev pub viewsOf : List ℕ → ℕ → Kind → Fields
 viewsOf bs k j = chosenViews bs k 0 (layout j)
+
+-- the answer a, and the draft x after the draft d, of an addition
+abbrev pub Adds : Kind → Fields → List ℕ → Answer → List ℕ → Type 0
+Adds j fs d a x = (a ≡ writeAnswer (addition j fs d)) × (x ≡ draftAfter (addition j fs d) d)
+
+-- those of the addition of the views of row k, whose part has this kind
+abbrev pub AddsViews : List ℕ → ℕ → Kind → List ℕ → Answer → List ℕ → Type 0
+AddsViews bs k j d a x = Adds j (viewsOf bs k j) d a x
+
+-- those of the addition of the part that row k stands for
+abbrev pub AddsRow : List ℕ → ℕ → List ℕ → Answer → List ℕ → Type 0
+AddsRow bs k d a x = (p : Part) → RowOf bs k p → Adds (p .kind) (p .fields) d a x

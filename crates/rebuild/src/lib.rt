@@ -8,14 +8,13 @@ ghost use mathlib.Core.Path.{_≡_};
 ghost use mathlib.Core.List.{List, _++_};
 ghost use Prim.Native.Nat.{ℕ, _≤_};
 ghost use lib.ListN.{length, drop};
-ghost use Rattle.format.specs.Parts.{Part};
 ghost use Rattle.format.specs.Legal.{Legal};
 ghost use Rattle.format.specs.Reading.{found};
-ghost use Rattle.format.specs.Writer.{writeAnswer, draftAfter, addition};
+ghost use Rattle.format.specs.Writer.{writeAnswer, draftAfter};
 ghost use Rattle.format.specs.Claims.{additions};
 ghost use Rattle.format.specs.declared.Answer.the-variants.{Accepted};
 ghost use Rattle.rebuild.specs.Rebuilding.{rebuilt};
-ghost use Rattle.rebuild.specs.Rows.{RowOf, IsThere, HasRows};
+ghost use Rattle.rebuild.specs.Rows.{IsThere, HasKind, HasRows, AddsRow};
 use format::Answer;
 use format::Step;
 use reading::read;
@@ -23,16 +22,11 @@ use walker::nth_step;
 use writer::finish;
 use writer::start;
 
-// The part of a row added to the draft, by the call for its kind.
-fn add_row(token: &[u8], row: u32, draft: &mut [u8]) -> Answer
-    requires { ⌜ IsThere (now token) row ⌝ }
-    ensures { λ r. ⌜ ((p : Part) → RowOf (now (token .entry)) row p → (r ≡ writeAnswer (addition (p .kind) (p .fields) (now (draft .entry)))) × (now (draft .exit) ≡ draftAfter (addition (p .kind) (p .fields) (now (draft .entry))) (now (draft .entry)))) ⌝ }
+// The part of a row added to the draft, by the call for its kind, whose number is given.
+fn add_kind(token: &[u8], row: u32, kind: u32, draft: &mut [u8]) -> Answer
+    requires { ⌜ HasKind (now token) row kind ⌝ }
+    ensures { λ r. ⌜ AddsRow (now (token .entry)) row (now (draft .entry)) r (now (draft .exit)) ⌝ }
 {
-    let s = nth_step(token, row);
-    let Step::Record(r, _next) = s else {
-        return Answer::Refused(22, 0);
-    };
-    let kind = r.kind;
     match kind {
         0x110000 => sections::public_key(token, row, draft),
         0x120000 => sections::rule(token, row, draft),
@@ -48,6 +42,18 @@ fn add_row(token: &[u8], row: u32, draft: &mut [u8]) -> Answer
         0x150000 => sections::application_data(token, row, draft),
         _ => Answer::Refused(22, 0),
     }
+}
+
+// The part of a row added to the draft: the walk's step at the row tells its kind.
+fn add_row(token: &[u8], row: u32, draft: &mut [u8]) -> Answer
+    requires { ⌜ IsThere (now token) row ⌝ }
+    ensures { λ r. ⌜ AddsRow (now (token .entry)) row (now (draft .entry)) r (now (draft .exit)) ⌝ }
+{
+    let s = nth_step(token, row);
+    let Step::Record(r, _next) = s else {
+        return Answer::Refused(22, 0);
+    };
+    add_kind(token, row, r.kind, draft)
 }
 
 // The parts of all rows added one after another; a refusal goes straight out.

@@ -1,9 +1,7 @@
 // The addition of a row that is a section, its fields taken from their views.
-// All contracts here are one but for the kind: the answer and the draft are those of an addition of the row's views.
-ghost use mathlib.Core.Path.{_≡_};
+// All contracts here are one but for the kind.
 ghost use Rattle.format.specs.Parts as Parts;
-ghost use Rattle.format.specs.Writer.{writeAnswer, draftAfter, addition};
-ghost use Rattle.rebuild.specs.Rows.{RowOfKind, viewsOf};
+ghost use Rattle.rebuild.specs.Rows.{RowOfKind, AddsViews};
 use crate::numbers::four_of;
 use crate::numbers::one_of;
 use crate::numbers::two_of;
@@ -13,8 +11,7 @@ use lookup::view;
 // Section 11.
 pub(crate) fn public_key(token: &[u8], row: u32, draft: &mut [u8]) -> Answer
     requires { ⌜ RowOfKind (now token) row Parts.publicKey ⌝ }
-    ensures answer { λ r. ⌜ r ≡ writeAnswer (addition Parts.publicKey (viewsOf (now (token .entry)) row Parts.publicKey) (now (draft .entry))) ⌝ }
-    ensures draft { λ _. ⌜ now (draft .exit) ≡ draftAfter (addition Parts.publicKey (viewsOf (now (token .entry)) row Parts.publicKey) (now (draft .entry))) (now (draft .entry)) ⌝ }
+    ensures { λ r. ⌜ AddsViews (now (token .entry)) row Parts.publicKey (now (draft .entry)) r (now (draft .exit)) ⌝ }
 {
     let bits = two_of(token, row, 5);
     let exponent = view(token, row, 7);
@@ -26,8 +23,7 @@ pub(crate) fn public_key(token: &[u8], row: u32, draft: &mut [u8]) -> Answer
 // Section 12.
 pub(crate) fn rule(token: &[u8], row: u32, draft: &mut [u8]) -> Answer
     requires { ⌜ RowOfKind (now token) row Parts.rule ⌝ }
-    ensures answer { λ r. ⌜ r ≡ writeAnswer (addition Parts.rule (viewsOf (now (token .entry)) row Parts.rule) (now (draft .entry))) ⌝ }
-    ensures draft { λ _. ⌜ now (draft .exit) ≡ draftAfter (addition Parts.rule (viewsOf (now (token .entry)) row Parts.rule) (now (draft .entry))) (now (draft .entry)) ⌝ }
+    ensures { λ r. ⌜ AddsViews (now (token .entry)) row Parts.rule (now (draft .entry)) r (now (draft .exit)) ⌝ }
 {
     let id = view(token, row, 3);
     let flags = four_of(token, row, 4);
@@ -41,8 +37,7 @@ pub(crate) fn rule(token: &[u8], row: u32, draft: &mut [u8]) -> Answer
 // Section 13.
 pub(crate) fn name(token: &[u8], row: u32, draft: &mut [u8]) -> Answer
     requires { ⌜ RowOfKind (now token) row Parts.name ⌝ }
-    ensures answer { λ r. ⌜ r ≡ writeAnswer (addition Parts.name (viewsOf (now (token .entry)) row Parts.name) (now (draft .entry))) ⌝ }
-    ensures draft { λ _. ⌜ now (draft .exit) ≡ draftAfter (addition Parts.name (viewsOf (now (token .entry)) row Parts.name) (now (draft .entry))) (now (draft .entry)) ⌝ }
+    ensures { λ r. ⌜ AddsViews (now (token .entry)) row Parts.name (now (draft .entry)) r (now (draft .exit)) ⌝ }
 {
     let name = view(token, row, 3);
     section_writer::name(draft, name)
@@ -51,8 +46,7 @@ pub(crate) fn name(token: &[u8], row: u32, draft: &mut [u8]) -> Answer
 // Section 14.
 pub(crate) fn information(token: &[u8], row: u32, draft: &mut [u8]) -> Answer
     requires { ⌜ RowOfKind (now token) row Parts.information ⌝ }
-    ensures answer { λ r. ⌜ r ≡ writeAnswer (addition Parts.information (viewsOf (now (token .entry)) row Parts.information) (now (draft .entry))) ⌝ }
-    ensures draft { λ _. ⌜ now (draft .exit) ≡ draftAfter (addition Parts.information (viewsOf (now (token .entry)) row Parts.information) (now (draft .entry))) (now (draft .entry)) ⌝ }
+    ensures { λ r. ⌜ AddsViews (now (token .entry)) row Parts.information (now (draft .entry)) r (now (draft .exit)) ⌝ }
 {
     let flags = four_of(token, row, 4);
     section_writer::information(draft, flags)
@@ -61,8 +55,7 @@ pub(crate) fn information(token: &[u8], row: u32, draft: &mut [u8]) -> Answer
 // Section 15.
 pub(crate) fn application_data(token: &[u8], row: u32, draft: &mut [u8]) -> Answer
     requires { ⌜ RowOfKind (now token) row Parts.applicationData ⌝ }
-    ensures answer { λ r. ⌜ r ≡ writeAnswer (addition Parts.applicationData (viewsOf (now (token .entry)) row Parts.applicationData) (now (draft .entry))) ⌝ }
-    ensures draft { λ _. ⌜ now (draft .exit) ≡ draftAfter (addition Parts.applicationData (viewsOf (now (token .entry)) row Parts.applicationData) (now (draft .entry))) (now (draft .entry)) ⌝ }
+    ensures { λ r. ⌜ AddsViews (now (token .entry)) row Parts.applicationData (now (draft .entry)) r (now (draft .exit)) ⌝ }
 {
     let data = view(token, row, 4);
     long_section_writer::application_data(draft, data)

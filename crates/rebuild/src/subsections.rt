@@ -1,9 +1,7 @@
 // The addition of a row that is a subsection, its fields taken from their views.
-// All contracts here are one but for the kind: the answer and the draft are those of an addition of the row's views.
-ghost use mathlib.Core.Path.{_≡_};
+// All contracts here are one but for the kind.
 ghost use Rattle.format.specs.Parts as Parts;
-ghost use Rattle.format.specs.Writer.{writeAnswer, draftAfter, addition};
-ghost use Rattle.rebuild.specs.Rows.{RowOfKind, viewsOf};
+ghost use Rattle.rebuild.specs.Rows.{RowOfKind, AddsViews};
 use crate::numbers::one_of;
 use crate::numbers::two_of;
 use format::Answer;
@@ -12,8 +10,7 @@ use lookup::view;
 // 12/0001.
 pub(crate) fn transport_variant(token: &[u8], row: u32, draft: &mut [u8]) -> Answer
     requires { ⌜ RowOfKind (now token) row Parts.transportVariant ⌝ }
-    ensures answer { λ r. ⌜ r ≡ writeAnswer (addition Parts.transportVariant (viewsOf (now (token .entry)) row Parts.transportVariant) (now (draft .entry))) ⌝ }
-    ensures draft { λ _. ⌜ now (draft .exit) ≡ draftAfter (addition Parts.transportVariant (viewsOf (now (token .entry)) row Parts.transportVariant) (now (draft .entry))) (now (draft .entry)) ⌝ }
+    ensures { λ r. ⌜ AddsViews (now (token .entry)) row Parts.transportVariant (now (draft .entry)) r (now (draft .exit)) ⌝ }
 {
     let variant = view(token, row, 5);
     subsection_writer::transport_variant(draft, variant)
@@ -22,8 +19,7 @@ pub(crate) fn transport_variant(token: &[u8], row: u32, draft: &mut [u8]) -> Ans
 // 12/0002.
 pub(crate) fn transport_rule(token: &[u8], row: u32, draft: &mut [u8]) -> Answer
     requires { ⌜ RowOfKind (now token) row Parts.transportRule ⌝ }
-    ensures answer { λ r. ⌜ r ≡ writeAnswer (addition Parts.transportRule (viewsOf (now (token .entry)) row Parts.transportRule) (now (draft .entry))) ⌝ }
-    ensures draft { λ _. ⌜ now (draft .exit) ≡ draftAfter (addition Parts.transportRule (viewsOf (now (token .entry)) row Parts.transportRule) (now (draft .entry))) (now (draft .entry)) ⌝ }
+    ensures { λ r. ⌜ AddsViews (now (token .entry)) row Parts.transportRule (now (draft .entry)) r (now (draft .exit)) ⌝ }
 {
     let id = view(token, row, 4);
     subsection_writer::transport_rule(draft, id)
@@ -32,8 +28,7 @@ pub(crate) fn transport_rule(token: &[u8], row: u32, draft: &mut [u8]) -> Answer
 // 12/0003.
 pub(crate) fn export_parameters(token: &[u8], row: u32, draft: &mut [u8]) -> Answer
     requires { ⌜ RowOfKind (now token) row Parts.exportParameters ⌝ }
-    ensures answer { λ r. ⌜ r ≡ writeAnswer (addition Parts.exportParameters (viewsOf (now (token .entry)) row Parts.exportParameters) (now (draft .entry))) ⌝ }
-    ensures draft { λ _. ⌜ now (draft .exit) ≡ draftAfter (addition Parts.exportParameters (viewsOf (now (token .entry)) row Parts.exportParameters) (now (draft .entry))) (now (draft .entry)) ⌝ }
+    ensures { λ r. ⌜ AddsViews (now (token .entry)) row Parts.exportParameters (now (draft .entry)) r (now (draft .exit)) ⌝ }
 {
     let minimum = one_of(token, row, 5);
     let maximum = one_of(token, row, 6);
@@ -45,8 +40,7 @@ pub(crate) fn export_parameters(token: &[u8], row: u32, draft: &mut [u8]) -> Ans
 // 12/0004.
 pub(crate) fn source_rule(token: &[u8], row: u32, draft: &mut [u8]) -> Answer
     requires { ⌜ RowOfKind (now token) row Parts.sourceRule ⌝ }
-    ensures answer { λ r. ⌜ r ≡ writeAnswer (addition Parts.sourceRule (viewsOf (now (token .entry)) row Parts.sourceRule) (now (draft .entry))) ⌝ }
-    ensures draft { λ _. ⌜ now (draft .exit) ≡ draftAfter (addition Parts.sourceRule (viewsOf (now (token .entry)) row Parts.sourceRule) (now (draft .entry))) (now (draft .entry)) ⌝ }
+    ensures { λ r. ⌜ AddsViews (now (token .entry)) row Parts.sourceRule (now (draft .entry)) r (now (draft .exit)) ⌝ }
 {
     let id = view(token, row, 4);
     subsection_writer::source_rule(draft, id)
@@ -55,8 +49,7 @@ pub(crate) fn source_rule(token: &[u8], row: u32, draft: &mut [u8]) -> Answer
 // 12/0005.
 pub(crate) fn token_parameters(token: &[u8], row: u32, draft: &mut [u8]) -> Answer
     requires { ⌜ RowOfKind (now token) row Parts.tokenParameters ⌝ }
-    ensures answer { λ r. ⌜ r ≡ writeAnswer (addition Parts.tokenParameters (viewsOf (now (token .entry)) row Parts.tokenParameters) (now (draft .entry))) ⌝ }
-    ensures draft { λ _. ⌜ now (draft .exit) ≡ draftAfter (addition Parts.tokenParameters (viewsOf (now (token .entry)) row Parts.tokenParameters) (now (draft .entry))) (now (draft .entry)) ⌝ }
+    ensures { λ r. ⌜ AddsViews (now (token .entry)) row Parts.tokenParameters (now (draft .entry)) r (now (draft .exit)) ⌝ }
 {
     let mask = view(token, row, 6);
     let template = view(token, row, 7);
@@ -67,8 +60,7 @@ pub(crate) fn token_parameters(token: &[u8], row: u32, draft: &mut [u8]) -> Answ
 // 14/0001.
 pub(crate) fn protection(token: &[u8], row: u32, draft: &mut [u8]) -> Answer
     requires { ⌜ RowOfKind (now token) row Parts.protection ⌝ }
-    ensures answer { λ r. ⌜ r ≡ writeAnswer (addition Parts.protection (viewsOf (now (token .entry)) row Parts.protection) (now (draft .entry))) ⌝ }
-    ensures draft { λ _. ⌜ now (draft .exit) ≡ draftAfter (addition Parts.protection (viewsOf (now (token .entry)) row Parts.protection) (now (draft .entry))) (now (draft .entry)) ⌝ }
+    ensures { λ r. ⌜ AddsViews (now (token .entry)) row Parts.protection (now (draft .entry)) r (now (draft .exit)) ⌝ }
 {
     let mac_key = view(token, row, 4);
     let mac = view(token, row, 5);
@@ -79,8 +71,7 @@ pub(crate) fn protection(token: &[u8], row: u32, draft: &mut [u8]) -> Answer
 // 14/0002.
 pub(crate) fn dates(token: &[u8], row: u32, draft: &mut [u8]) -> Answer
     requires { ⌜ RowOfKind (now token) row Parts.dates ⌝ }
-    ensures answer { λ r. ⌜ r ≡ writeAnswer (addition Parts.dates (viewsOf (now (token .entry)) row Parts.dates) (now (draft .entry))) ⌝ }
-    ensures draft { λ _. ⌜ now (draft .exit) ≡ draftAfter (addition Parts.dates (viewsOf (now (token .entry)) row Parts.dates) (now (draft .entry))) (now (draft .entry)) ⌝ }
+    ensures { λ r. ⌜ AddsViews (now (token .entry)) row Parts.dates (now (draft .entry)) r (now (draft .exit)) ⌝ }
 {
     let flags = two_of(token, row, 4);
     let activation = view(token, row, 5);

@@ -3,7 +3,6 @@ use borrow.Author.Needs.{needs}
 use mathlib.Core.Path.{_≡_}
 use lib.ListN.{length}
 use Prim.Native.Nat.{_-_, _≤_}
-use native.Mathlib.Omega.{arith}
 use Rattle.rebuild_token.proofs.write_bytes.Statement.{statement}
 use Rattle.rebuild_token.proofs.write_bytes.Tie as tie
 

@@ -1,7 +1,6 @@
 -- Row after row.
 use borrow.Author.Needs.{needs}
 use Prim.Native.Nat.{_-_, _≤_}
-use native.Mathlib.Omega.{arith}
 use Rattle.rebuild_token.proofs.write_rebuilt.Statement.{statement}
 use Rattle.rebuild_token.proofs.write_rebuilt.Tie as tie
 

@@ -1,7 +1,6 @@
 -- Field after field.
 use borrow.Author.Needs.{needs}
 use Prim.Native.Nat.{_-_, _≤_}
-use native.Mathlib.Omega.{arith}
 use Rattle.rebuild_token.proofs.write_row_fields.Statement.{statement}
 use Rattle.rebuild_token.proofs.write_row_fields.Tie as tie
 
