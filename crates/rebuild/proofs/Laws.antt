@@ -43,9 +43,10 @@ use Rattle.format.proofs.Viewing.{fields-viewed, read-parts}
 use Rattle.reading.proofs.Filled.{accepted-read}
 use Rattle.walker.specs.Walking.{stepAfter}
 use Rattle.walker.proofs.Main.{behind-row}
+use Rattle.writer.specs.Runs.{Call}
 use Rattle.rebuild.specs.Rebuilding.{rebuilt}
 use Rattle.rebuild.proofs.Main.{gives-back, without-room, own-fault}
-use Rattle.rebuild.specs.Rows.{RowOf, RowOfKind, IsThere, HasKind, HasRows, viewsOf, Adds, AddsViews, AddsRow}
+use Rattle.rebuild.specs.Rows.{RowOf, RowOfKind, IsThere, HasKind, HasRows, viewsOf, AddsViews, AddsRow}
 
 -- ---- the views of a row
 
@@ -152,16 +153,18 @@ of-kind j w e =
 pub and-fields : {f g : List ℕ} {fs gs : Fields} → f ≡ g → fs ≡ gs → f ∷ fs ≡ g ∷ gs
 and-fields e es = ap₂ (λ (f : List ℕ) (fs : Fields). f ∷ fs) e es
 
--- Two lists of fields that are the same are added alike.
-pub same-added : {a : Answer} {x : List ℕ} (d : List ℕ) (j : Kind) (fs gs : Fields) → Adds j fs d a x → fs ≡ gs → Adds j gs d a x
-same-added {a} {x} d j fs gs w e = subst (λ (hs : Fields). Adds j hs d a x) e w
+-- The contract of an addition is a call of the writer, and of the same fields in other words too.
+pub same-added : {a : Answer} {x : List ℕ} (d : List ℕ) (j : Kind) (fs gs : Fields)
+    → (a ≡ writeAnswer (addition j fs d)) × (x ≡ draftAfter (addition j fs d) d) → fs ≡ gs → Call (addition j gs d) d a x
+same-added {a} {x} d j fs gs w e =
+    subst (λ (hs : Fields). Call (addition j hs d) d a x) e (record { answer = w .0; draft = w .1 })
 
 -- What is said of a row's views is said of its part.
 pub of-part : {bs : List ℕ} {k n : ℕ} {a : Answer} {x : List ℕ} (d : List ℕ) (j : Kind) → HasKind bs k n → n ≡ kindNumber j
     → AddsViews bs k j d a x → AddsRow bs k d a x
 of-part {bs} {k} {n} {a} {x} d j h e w p r =
     let q : j ≡ p .kind = number-told j (p .kind) (sym e ∙ h .told p r) in
-    same-added d (p .kind) (viewsOf bs k (p .kind)) (p .fields) (subst (λ (i : Kind). AddsViews bs k i d a x) q w) (sym (part-views p r))
+    subst (λ (fs : Fields). Call (addition (p .kind) fs d) d a x) (sym (part-views p r)) (subst (λ (i : Kind). AddsViews bs k i d a x) q w)
 
 -- ---- the rows one after another
 
@@ -191,9 +194,9 @@ module _ {bs : List ℕ} {n k : ℕ} (h : HasRows bs n) (lt : k < n) where
   one-added {a} {x} d l e s f =
       let p = next-row l in
       let w = followed (addition (p .0 .kind) (p .0 .fields) d) _ e (sym (ap (λ (qs : List Part). additions qs d) (p .1 .1)) ∙ s) in
-      let t : x ≡ draftAfter (found (w .0)) d = f (p .0) (p .1 .0) .1 ∙ ap (λ (o : Outcome (List ℕ)). draftAfter o d) (w .1) in
+      let t : x ≡ draftAfter (found (w .0)) d = f (p .0) (p .1 .0) .draft ∙ ap (λ (o : Outcome (List ℕ)). draftAfter o d) (w .1) in
       let j : k + 1 ≡ suc k = omega arith in (
-        (length (w .0), f (p .0) (p .1 .0) .0 ∙ ap writeAnswer (w .1)),
+        (length (w .0), f (p .0) (p .1 .0) .answer ∙ ap writeAnswer (w .1)),
         ap (λ (m : ℕ). additions (drop m (l .parts)) x) j ∙ ap (additions (drop (suc k) (l .parts))) t ∙ w .2,
       )
 

@@ -7,9 +7,10 @@ use Rattle.format.specs.Layout.{Fields}
 use Rattle.format.specs.Parts.{Kind, kindNumber, layout, Part}
 use Rattle.format.specs.Legal.{Legal}
 use Rattle.format.specs.Table.{Placed}
-use Rattle.format.specs.Writer.{writeAnswer, draftAfter, addition}
+use Rattle.format.specs.Writer.{addition}
 use Rattle.format.specs.Claims.{IsRow, chosenViews}
 use Rattle.format.specs.declared.Answer.{Answer}
+use Rattle.writer.specs.Runs.{Call}
 
 -- row number k of the legal token stands for the part p
 pub record RowOf (bs : List ℕ) (k : ℕ) (p : Part) : Type 0 where
@@ -43,14 +44,10 @@ pub record HasRows (bs : List ℕ) (n : ℕ) : Type 0 where
 abbrev pub viewsOf : List ℕ → ℕ → Kind → Fields
 viewsOf bs k j = chosenViews bs k 0 (layout j)
 
--- the answer a, and the draft x after the draft d, of an addition
-abbrev pub Adds : Kind → Fields → List ℕ → Answer → List ℕ → Type 0
-Adds j fs d a x = (a ≡ writeAnswer (addition j fs d)) × (x ≡ draftAfter (addition j fs d) d)
-
--- those of the addition of the views of row k, whose part has this kind
+-- a call with the answer a that leaves the draft x of the draft d, by which the views of row k are added as a part of kind j
 abbrev pub AddsViews : List ℕ → ℕ → Kind → List ℕ → Answer → List ℕ → Type 0
-AddsViews bs k j d a x = Adds j (viewsOf bs k j) d a x
+AddsViews bs k j d a x = Call (addition j (viewsOf bs k j) d) d a x
 
--- those of the addition of the part that row k stands for
+-- one by which the part that row k stands for is added
 abbrev pub AddsRow : List ℕ → ℕ → List ℕ → Answer → List ℕ → Type 0
-AddsRow bs k d a x = (p : Part) → RowOf bs k p → Adds (p .kind) (p .fields) d a x
+AddsRow bs k d a x = (p : Part) → RowOf bs k p → Call (addition (p .kind) (p .fields) d) d a x
