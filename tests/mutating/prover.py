@@ -137,7 +137,7 @@ class Copy:
         return alone[failed[0][0]][0] if failed else None
 
     def every(self):
-        """The words that check all libraries in one run, passed as source to an empty crate."""
+        """The words that check all libraries in one run, passed as source to an empty crate; but those that need the kit's, which promise nothing."""
         os.makedirs(os.path.join(self.all, "crates", "every", "src"), exist_ok=True)
         with open(os.path.join(self.all, "crates.txt"), "w") as f:
             f.write("every:\n")
@@ -146,7 +146,7 @@ class Copy:
         words = ["rt", "dev", "every"]
         for name, needs in self.crates.items():
             file = os.path.join(self.folder, "crates", name, "src", "lib.rt")
-            if os.path.isfile(file):
+            if os.path.isfile(file) and all(need in self.crates for need in needs):
                 words += ["--lib", f"{name}:{','.join(needs)}={file}"]
         return words
 
