@@ -3,7 +3,7 @@ use mathlib.Core.Path.{_≡_, refl}
 use mathlib.Core.List.{List, [], _∷_, _++_}
 use Prim.Native.Nat.{ℕ, suc}
 use lib.Dec.{lit<, lit≤}
-use lib.ListN.{replicate, set}
+use lib.ListN.{replicate}
 use Rattle.format.specs.Parts.{Part, information, protection}
 use Rattle.format.specs.Legal.{Legal}
 use Rattle.format.specs.Table.{rows}
@@ -14,7 +14,7 @@ use Rattle.format.specs.Bytes.{All, number, bytesAt, allZero, sameBytes}
 use Rattle.format.specs.Forms.{ruleIdForm, dateExists}
 use Rattle.format.specs.Reading.{answer, asAnswer, reading, sections, section, sectionRest, afterSubsections, subsections, subsection, tested, need, andThen}
 use Rattle.format.proofs.Numbers.{bytes-zeros}
-use Rattle.format.specs.Examples.{tokenT, Holds, starred}
+use Rattle.format.specs.Examples.{tokenT, Holds, starred, springToken}
 
 pub starred-hold : All Holds starred
 unfolding answer asAnswer reading sections section sectionRest afterSubsections subsections subsection tested need andThen number bytesAt allZero sameBytes dateExists ruleIdForm
@@ -39,14 +39,8 @@ pub listing-T :
 unfolding answer asAnswer reading sections section sectionRest afterSubsections subsections subsection tested need andThen number bytesAt allZero sameBytes firstLine rowLine
 listing-T = refl
 
--- a rule without subsections that states n bytes, its Rule ID one letter
-abbrev ruleStating : ℕ → ℕ → List ℕ
-ruleStating n letter = 0x12 ∷ 0 ∷ 0 ∷ n ∷ letter ∷ replicate 7 32 ++ (0 ∷ 0 ∷ 0 ∷ 0 ∷ 8 ∷ 0 ∷ 0 ∷ 0 ∷ [])
-
--- The spring bill in small: a rule states 28 bytes, 8 for its transport variant, and the variant states 28, the 20 more looking
--- like a rule. Read past its section it would be a subsection whose bytes are then read again, as a second rule.
-pub spring-refused :
-    answer (set tokenT 3 128 ++ (ruleStating 28 65 ++ (0 ∷ 1 ∷ 0 ∷ 28 ∷ 0 ∷ 0 ∷ 0 ∷ 20 ∷ ruleStating 20 66))) ≡ Refused 12 100
+-- The spring bill's token is refused.
+pub spring-refused : answer springToken ≡ Refused 12 100
 unfolding answer asAnswer reading sections section sectionRest afterSubsections subsections subsection tested need andThen number bytesAt allZero sameBytes ruleIdForm
 spring-refused = refl
 

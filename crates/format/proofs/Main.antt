@@ -20,7 +20,7 @@ use Rattle.format.specs.Views.{fieldAt, view, viewAnswer, nextPlace, ste
 use Rattle.format.specs.GivenNumbers.{numberOf, secondOf, offsetOf, lengthOf, stepNumber, rowKind}
 use Rattle.format.specs.Writer.{writeAnswer, draftAfter, start, addition, finish}
 use Rattle.format.specs.Claims.{answerNumbers, stepNumbers, IsRow, Tiles, subsOf, ruleRows, slotsOf, chosenViews, viewsFrom, walk, walkPlace, additions, restate, sectionsEnd, lackingAt}
-use Rattle.format.specs.Examples.{tokenT, Holds, starred}
+use Rattle.format.specs.Examples.{tokenT, Holds, starred, springToken}
 use Rattle.format.specs.declared.Answer.the-variants.{Accepted, Refused}
 use Rattle.format.specs.declared.Step.the-variants.{End, Stopped}
 use Rattle.format.proofs.Numbers as Numbers
@@ -376,6 +376,10 @@ added-subsection-changes d p bs b f e = Additions.sub-changes d p bs b f e
 -- "The starred examples are shown of the definitions, gathered into a single table under one claim".
 pub starred-examples : All Holds starred
 starred-examples = Examples.starred-hold
+
+-- "A rule section stated a length shorter than its subsections": such a block is refused, at the subsection.
+pub spring-refused : answer springToken ≡ Refused 12 100
+spring-refused = Examples.spring-refused
 
 -- "a reader that refuses everything (a legal token exists)".
 pub a-legal-token-exists : Legal tokenT

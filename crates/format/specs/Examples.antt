@@ -1,4 +1,4 @@
--- The starred examples of 01: one table, one claim.
+-- The starred examples of 01: one table, one claim; and the fault of the spring bill.
 use mathlib.Core.Path.{_≡_}
 use mathlib.Core.Bool.{Bool, true, false}
 use mathlib.Core.List.{List, [], _∷_, _++_}
@@ -17,9 +17,13 @@ tokenT =
     ∷ 0 ∷ 1 ∷ 0 ∷ 62 ∷ 0 ∷ 0
     ∷ replicate 56 0
 
+-- a rule without subsections that states n bytes, with this Rule ID
+abbrev pub ruleStating : ℕ → List ℕ → List ℕ
+ruleStating n r = 0x12 ∷ 0 ∷ 0 ∷ n ∷ r ++ (0 ∷ 0 ∷ 0 ∷ 0 ∷ 8 ∷ 0 ∷ 0 ∷ 0 ∷ [])
+
 -- the smallest token with a bare rule of this Rule ID after its other section
 abbrev pub withRule : List ℕ → List ℕ
-withRule r = set tokenT 3 100 ++ (0x12 ∷ 0 ∷ 0 ∷ 20 ∷ r ++ (0 ∷ 0 ∷ 0 ∷ 0 ∷ 8 ∷ 0 ∷ 0 ∷ 0 ∷ []))
+withRule r = set tokenT 3 100 ++ ruleStating 20 r
 
 -- an example: the answer for some bytes, the answer whichever number stands in them, whether a date exists
 pub data Example : Type 0 where
@@ -46,3 +50,10 @@ starred =
     ∷ read (withRule (replicate 8 32)) (Refused 17 80)
     ∷ read (withRule (65 ∷ replicate 7 32)) (Accepted 3)
     ∷ []
+
+-- 00's block in small: after the smallest token's section a rule A that states 28 bytes, 8 of them for its transport variant,
+-- which states 28, the 20 more being a rule B. Read past its section, it would be a subsection, and then a second rule.
+abbrev pub springToken : List ℕ
+springToken =
+    set tokenT 3 128
+    ++ (ruleStating 28 (65 ∷ replicate 7 32) ++ (0 ∷ 1 ∷ 0 ∷ 28 ∷ 0 ∷ 0 ∷ 0 ∷ 20 ∷ ruleStating 20 (66 ∷ replicate 7 32)))
