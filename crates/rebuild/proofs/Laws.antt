@@ -14,9 +14,8 @@ use denote.Enum.Declared.{tagOf}
 use Rattle.format.specs.Bytes.{every, Bytes, bigEndian, number, bytesAt}
 use Rattle.format.specs.Layout.{Fields}
 use Rattle.format.specs.Parts.{Kind, kinds, layout, kindNumber, Part, size, written}
-use Rattle.format.specs.Rules.{Section}
 use Rattle.format.specs.Legal.{Legal}
-use Rattle.format.specs.Reading.{Outcome, refused, found, reading, asAnswer, rowCount, answer}
+use Rattle.format.specs.Reading.{Outcome, found, fault, reading, asAnswer, rowCount, answer}
 use Rattle.format.specs.Table.{Placed, placed}
 use Rattle.format.specs.Writer.{writeAnswer, draftAfter, start, addition, finish}
 use Rattle.format.specs.Claims.{additions}
@@ -41,6 +40,7 @@ use Rattle.format.proofs.Unique.{one-choice}
 use Rattle.format.proofs.Writing as Writing
 use Rattle.format.proofs.Viewing.{fields-viewed, read-parts}
 use Rattle.reading.proofs.Filled.{accepted-read}
+use Rattle.longer_drafts.proofs.Outcomes.{told-refused, refused-written, found-written}
 use Rattle.walker.specs.Walking.{stepAfter}
 use Rattle.walker.proofs.Main.{behind-row}
 use Rattle.writer.specs.Runs.{Call}
@@ -252,15 +252,11 @@ to-add {bs} {d} w e =
 -- The token's own refusal.
 pub own-refusal : {m p : ℕ} (bs d : List ℕ) → Refused m p ≡ answer bs
     → (Refused m p ≡ writeAnswer (rebuilt bs d)) × (d ≡ draftAfter (rebuilt bs d) d)
-unfolding answer asAnswer
-own-refusal {m} {p} bs d e = go (reading true bs) refl e
-  where
-    go : (o : Outcome (List Section)) → reading true bs ≡ o → Refused m p ≡ asAnswer rowCount o
-        → (Refused m p ≡ writeAnswer (rebuilt bs d)) × (d ≡ draftAfter (rebuilt bs d) d)
-    go (refused f) q w =
-        let r = own-fault bs d f q in
-        (w ∙ sym (ap writeAnswer r), sym (ap (λ (o : Outcome (List ℕ)). draftAfter o d) r))
-    go (found ss) q w = absurd (let y : _≡_ {A = ℕ} 0 1 = cc in omega arith)
+unfolding answer
+own-refusal bs d e =
+    let r = told-refused rowCount (reading true bs) e in
+    refused-written (rebuilt bs d) d
+    (record { cause = r .cause; is = own-fault bs d (r .cause) (r .is); number = r .number; place = r .place })
 
 module _ {n : ℕ} (bs d : List ℕ) (e : Accepted n ≡ answer bs) (b : Bytes bs) where
   -- An accepted token is legal, with that many rows.
@@ -272,15 +268,11 @@ module _ {n : ℕ} (bs d : List ℕ) (e : Accepted n ≡ answer bs) (b : Bytes b
 
   -- No room.
   pub no-room : length d < length bs → (Refused 23 0 ≡ writeAnswer (rebuilt bs d)) × (d ≡ draftAfter (rebuilt bs d) d)
-  unfolding asAnswer
   no-room h =
-      let r = without-room bs d (has-rows .legal) h in
-      (sym (ap writeAnswer r), sym (ap (λ (o : Outcome (List ℕ)). draftAfter o d) r))
+      refused-written (rebuilt bs d) d
+      (record { cause = fault 23 0 0; is = without-room bs d (has-rows .legal) h; number = refl; place = refl })
 
   -- The very bytes.
   pub whole : {a : Answer} {x : List ℕ} → length bs ≤ length d → a ≡ Accepted (length bs) → x ≡ bs ++ drop (length bs) d
       → (a ≡ writeAnswer (rebuilt bs d)) × (x ≡ draftAfter (rebuilt bs d) d)
-  unfolding asAnswer
-  whole h f g =
-      let r = gives-back bs d (has-rows .legal) h in
-      (f ∙ sym (ap writeAnswer r), g ∙ sym (ap (λ (o : Outcome (List ℕ)). draftAfter o d) r))
+  whole h f g = let w = found-written (rebuilt bs d) d bs (gives-back bs d (has-rows .legal) h) refl in (f ∙ w .0, g ∙ w .1)
