@@ -61,7 +61,7 @@ enum {
     TB_PUBLIC_KEY = 16,        /* public key rule broken */
     TB_FORM = 17,              /* Rule ID or label template form */
     TB_LENGTH_RULE = 18,       /* rule of 0003 or 0005 on lengths */
-    TB_DATE = 19,              /* date rule */
+    TB_DATE = 19,              /* date rule, asked only where the flags beside the dates are 1 */
     TB_MISSING = 20,           /* required part missing; for section 14 the place is the token's length */
     TB_MKVP = 21,              /* external token with MKVP not 0 */
     TB_NO_SUCH = 22,           /* no such row or field; place 0 */
@@ -216,7 +216,8 @@ uint32_t tb_add_protection(uint8_t *draft, size_t draft_len, const uint8_t *mac_
                            const uint8_t *mac, size_t mac_len, const uint8_t *mkvp, size_t mkvp_len,
                            uint32_t *second);
 
-/* 14/0002. Flags 0 or 1; two dates of 4 bytes: year in two, month, day; the first not after the second. */
+/* 14/0002. Flags 0 or 1; two dates of 4 bytes. With flags 1 each is a date, year in two bytes, month, day, and
+   the first not after the second; with flags 0 they are any bytes, kept as they are. */
 uint32_t tb_add_dates(uint8_t *draft, size_t draft_len, uint16_t flags, const uint8_t *activation,
                       size_t activation_len, const uint8_t *expiration, size_t expiration_len,
                       uint32_t *second);

@@ -21,7 +21,7 @@ SORTS = {"read": (laws.of_reading, READING), "draft": (laws.of_reading, READING)
          "step": (laws.of_step, {**READING, "Views": "placeAfter"}),
          "first": (laws.of_line, {"Lines": ""}), "line": (laws.of_line, {"Lines": ""}), "date": (laws.of_form, {"Bytes": "", "Forms": ""}),
          "ruleid": (laws.of_form, {"Forms": ""}), "label": (laws.of_form, {"Forms": ""}), "given": (laws.of_given, {"GivenNumbers": ""}),
-         "example": (laws.of_example, {"Examples": "starred Example read readAny date"}), "parts": (laws.of_parts, PARTS)}
+         "example": (laws.of_example, {"Examples": "starred Example read readAny date", "DateExamples": "datesRead"}), "parts": (laws.of_parts, PARTS)}
 HEAD = """use mathlib.Core.Path.{_≡_, refl}
 use mathlib.Core.Bool.{Bool, true, false}
 use mathlib.Core.List.{List, [], _∷_, _++_}
@@ -121,7 +121,7 @@ def modules(bases, cases, size, specs):
     found, by_law = {"Bases": bases_module(bases)}, {}
     for case in cases:
         case.equations = SORTS[case.sort][0](case, bases)
-        case.shape = (len(case.equations), case.words[1] if case.sort == "example" else "")
+        case.shape = (len(case.equations), case.words[2] if case.sort == "example" else "")
     for sort in SORTS:
         of_sort = groups([c for c in cases if c.sort == sort], size)
         by_law.update((group_name(g), g) for g in of_sort)

@@ -89,9 +89,9 @@ def of_given(case, bases):
 
 
 def of_example(case, bases):
-    """The bytes of a starred example, the last of them where it holds for any, and what it says of them."""
-    turn, sort, bs = case.words[0], case.words[1], bytes_of(case.words[2])
-    example = f"(getD starred {turn} (date [] true))"
+    """The bytes of an example of a list, the last of them where it holds for any, and what it says of them."""
+    examples, turn, sort, bs = *case.words[:3], bytes_of(case.words[3])
+    example = f"(getD {examples} {turn} (date [] true))"
     laws = [(f"exampleBytes {bs[-1] if bs else 0} {example}", terms.numbers(bs))]
     if sort == "date":
         return laws + [(f"exampleDate {example}", terms.truth(case.says[0]))]

@@ -195,6 +195,30 @@ static void buffers_without_room(size_t size)
     }
 }
 
+/* Dates with flags 0 are any bytes of four; with flags 1 they are judged, with others the flags are refused. */
+static void dates_by_their_flags(void)
+{
+    static const uint8_t bytes[3][4] = {{0, 0, 0, 0}, {0xFF, 0xFF, 0xFF, 0xFF}, {0x07, 0xEA, 1, 1}};
+    uint32_t second;
+    size_t i;
+
+    for (i = 0; i < 9; i++) {
+        const uint8_t *first = bytes[i / 3], *last = bytes[i % 3];
+        struct lent draft = started(34);
+
+        CHECK(add(information, &draft, &second) == TB_ACCEPTED && second == 18);
+        CHECK(tb_add_dates(draft.bytes, 34, 2, first, 4, last, 4, &second) == TB_VALUE && second == 18);
+        CHECK(tb_add_dates(draft.bytes, 34, 0, first, 3, last, 4, &second) == TB_FIELD_LENGTH && second == 18);
+        CHECK(tb_add_dates(draft.bytes, 34, 0, first, 4, last, 3, &second) == TB_FIELD_LENGTH && second == 18);
+        if (i < 8) {
+            CHECK(tb_add_dates(draft.bytes, 34, 1, first, 4, last, 4, &second) == TB_DATE && second == 18);
+        }
+        CHECK(tb_add_dates(draft.bytes, 34, 0, first, 4, last, 4, &second) == TB_ACCEPTED && second == 34);
+        CHECK(memcmp(draft.bytes + 26, first, 4) == 0 && memcmp(draft.bytes + 30, last, 4) == 0);
+        take_back(&draft);
+    }
+}
+
 static size_t load(uint8_t *bytes, size_t most)
 {
     FILE *file = fopen("samples/all_kinds.token", "rb");
@@ -217,6 +241,7 @@ int main(void)
     starts();
     drafts_at_fault();
     additions_with_nothing_lent();
+    dates_by_their_flags();
     the_sample_is_built(sample, size, size);
     the_sample_is_built(sample, size, size + 1);
     the_sample_is_built(sample, size, LONG);

@@ -132,6 +132,10 @@ fn dates(bytes: &[u8]) -> Check {
     ensure(bytes.len() == 16, 12)?;
     ensure(bytes[5] == 0, 10)?;
     ensure(matches!(bytes[6..8], [0, 0 | 1]), 11)?;
+    // "The dates are judged only when the flags are 1" (02, #102).
+    if bytes[7] == 0 {
+        return Ok(());
+    }
     let (activation, expiration) = (&bytes[8..12], &bytes[12..16]);
     ensure(forms::date_exists(activation), 19)?;
     ensure(forms::date_exists(expiration), 19)?;

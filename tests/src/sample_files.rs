@@ -20,6 +20,7 @@ pub fn samples() -> Vec<Sample> {
         sample("all_kinds", all_kinds()),
         sample("rules_171", rules_171()),
         sample("four_rules", four_rules()),
+        sample("zero_dates", zero_dates()),
         sample("spring", spring()),
         sample("rule_id_twice", rule_id_twice()),
     ]
@@ -156,6 +157,18 @@ fn information_with_dates() -> Vec<Part> {
             mkvp: vec![0x77; 16],
         },
     ]
+}
+
+/// Two rules, and dates that nobody judges: flags 0 and both dates zero.
+fn zero_dates() -> Vec<u8> {
+    let mut parts = information();
+    parts.push(Part::Dates {
+        flags: 0,
+        activation: vec![0; 4],
+        expiration: vec![0; 4],
+    });
+    parts.extend([rule("NIGHT-1"), rule("NIGHT-2")]);
+    build(EXTERNAL, &parts)
 }
 
 /// Where the second rule of [`four_rules`] begins.

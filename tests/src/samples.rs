@@ -86,7 +86,12 @@ pub fn protection() -> Vec<u8> {
 
 /// 14/0002 with flags 1.
 pub fn dates(activation: [u8; 4], expiration: [u8; 4]) -> Vec<u8> {
-    subsection(2, &[&[0, 0, 1], &activation, &expiration])
+    dates_with_flags(1, activation, expiration)
+}
+
+/// 14/0002; with flags 0 its dates may be any bytes.
+pub fn dates_with_flags(flags: u8, activation: [u8; 4], expiration: [u8; 4]) -> Vec<u8> {
+    subsection(2, &[&[0, 0, flags], &activation, &expiration])
 }
 
 /// Section 13.

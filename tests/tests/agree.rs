@@ -7,6 +7,7 @@ mod common;
 use common::{assert_exactly, count_of_tokens, Tally};
 use trusted_block_tests::fast::writer::{fast_add, fast_finish};
 use trusted_block_tests::fast::{fast_fill, fast_read};
+use trusted_block_tests::forms::date_exists;
 use trusted_block_tests::generate::calls::{sequence, Call};
 use trusted_block_tests::generate::damage::{damaged, with_fault};
 use trusted_block_tests::generate::faults::{CONTENT, LENGTHS};
@@ -78,6 +79,10 @@ struct Limits {
     year_9999: usize,
     leap_day: usize,
     variant_255: usize,
+    zero_dates: usize,
+    no_activation: usize,
+    no_expiration: usize,
+    out_of_order: usize,
     kinds: [usize; 12],
 }
 
@@ -107,6 +112,18 @@ impl Limits {
                 self.bits_between_bytes += usize::from(modulus_bits % 8 != 0);
                 self.exponent_1 += usize::from(exponent.len() == 1);
                 self.exponent_512 += usize::from(exponent.len() == 512);
+            }
+            Part::Dates {
+                flags: 0,
+                activation,
+                expiration,
+            } => {
+                let exist = [activation, expiration].map(|date| date_exists(date));
+                let zero = activation == &[0; 4] && expiration == &[0; 4];
+                self.zero_dates += usize::from(zero);
+                self.no_activation += usize::from(exist == [false, true]);
+                self.no_expiration += usize::from(exist == [true, false]);
+                self.out_of_order += usize::from(activation > expiration);
             }
             Part::Dates {
                 activation,
@@ -141,6 +158,17 @@ impl Limits {
             self.variant_255,
         ];
         assert!(counts.iter().all(|count| *count >= 20), "{self:?}");
+        // Dates that nobody judges, each sort with one in 30 dates at least.
+        let dates = kinds::ALL.iter().position(|kind| *kind == kinds::DATES);
+        let least = self.kinds[dates.expect("a listed kind")] / 30;
+        for count in [
+            self.zero_dates,
+            self.no_activation,
+            self.no_expiration,
+            self.out_of_order,
+        ] {
+            assert!(count >= least, "{self:?}");
+        }
         assert!(self.kinds.iter().all(|count| *count >= 1000), "{self:?}");
     }
 }

@@ -149,10 +149,37 @@ fn activation_is_not_after_expiration() {
     let both = |first, second| token_of(&[information(&[dates(first, second), protection()])]);
     assert_accepted(&both(early, late), 3);
     assert_refused(&both(late, early), 19, 18);
-    // Judged with flags 0 too.
-    let mut token = both(late, early);
-    token[18 + 7] = 0;
-    assert_refused(&token, 19, 18);
+}
+
+/// #102: with flags 0 the dates are any bytes, and the views give them.
+#[test]
+fn dates_are_judged_only_with_flags_1() {
+    let (none, all, day) = ([0; 4], [0xFF; 4], [7, 0xD0, 2, 29]);
+    let later = [7, 0xD0, 3, 1];
+    for (activation, expiration) in [
+        (none, none),
+        (all, all),
+        (later, day),
+        (none, day),
+        (day, none),
+        (all, day),
+        (day, all),
+    ] {
+        let with = |flags| {
+            let dates = dates_with_flags(flags, activation, expiration);
+            token_of(&[information(&[protection(), dates])])
+        };
+        let token = with(0);
+        assert_accepted(&token, 3);
+        for (field, offset, bytes) in [(5, 88, activation), (6, 92, expiration)] {
+            assert_eq!(view(&token, 2, field), Ok((offset, 4)));
+            assert_eq!(library::view(&token, 2, field), Ok((offset, 4)));
+            assert_eq!(token[offset as usize..][..4], bytes);
+        }
+        assert_refused(&with(1), 19, 80);
+        // The flags are judged as before, and before the dates.
+        assert_refused(&with(2), 11, 80);
+    }
 }
 
 #[test]

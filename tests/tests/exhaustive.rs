@@ -88,6 +88,11 @@ fn every_byte_of_the_sample_of_all_kinds() {
     every_byte_of(&sample("all_kinds"));
 }
 
+#[test]
+fn every_byte_of_the_sample_with_zero_dates() {
+    every_byte_of(&sample("zero_dates"));
+}
+
 /// The places of the bytes of all fields but the contents, in order: ids,
 /// tags, versions, lengths, reserved, flags, formats and counts; part by part.
 fn places_of_heads(token: &[u8]) -> Vec<Vec<usize>> {

@@ -1,5 +1,6 @@
 //! Every day of the years 0 to 9,999, and dates that are none, as activation
-//! and as expiration of 14/0002, by the library's reader and writer.
+//! and as expiration of 14/0002, by the library's reader and writer: judged
+//! with flags 1, accepted whatever they are with flags 0.
 
 mod common;
 
@@ -19,6 +20,9 @@ const DAYS: usize = 25 * 146_097;
 /// Where the activation stands in [`with_dates`]; the expiration follows.
 const PLACE: usize = 26;
 
+/// Where the flags' second byte stands, right before the activation.
+const FLAGS: usize = PLACE - 1;
+
 /// T with dates before its protection.
 fn with_dates() -> Vec<u8> {
     token_of(&[information(&[dates(FIRST, LAST), protection()])])
@@ -29,13 +33,24 @@ fn date(year: u16, month: u8, day: u8) -> [u8; 4] {
     [high, low, month, day]
 }
 
-/// The token with these dates must be read as `legal` says.
+/// The token with these dates must be accepted with flags 0, and with flags 1
+/// be read as `legal` says.
 fn check(token: &mut [u8], activation: [u8; 4], expiration: [u8; 4], legal: bool) {
     token[PLACE..PLACE + 4].copy_from_slice(&activation);
     token[PLACE + 4..PLACE + 8].copy_from_slice(&expiration);
-    let expected = if legal { answer(0, 3) } else { answer(19, 18) };
-    let given = library::read(token);
-    assert_eq!(given, expected, "{activation:02X?} {expiration:02X?}");
+    for (flags, accepted) in [(0, true), (1, legal)] {
+        token[FLAGS] = flags;
+        let expected = if accepted {
+            answer(0, 3)
+        } else {
+            answer(19, 18)
+        };
+        let given = library::read(token);
+        assert_eq!(
+            given, expected,
+            "{flags} {activation:02X?} {expiration:02X?}"
+        );
+    }
 }
 
 /// The same date as activation and as expiration, with the furthest other.
@@ -134,9 +149,26 @@ fn the_second_reader_says_the_same() {
         for month in 0..=13 {
             let day = [28, 29, 30, 31, 32][usize::from(year + u16::from(month)) % 5];
             check_each(&mut token, date(year, month, day));
-            assert_eq!(library::read(&token), read_answer(&token));
+            for flags in [0, 1] {
+                token[FLAGS] = flags;
+                assert_eq!(library::read(&token), read_answer(&token));
+            }
         }
     }
+}
+
+/// The date as activation and as expiration, added to this draft.
+fn add_both(empty: &[u8], flags: u16, date: [u8; 4], accepted: bool) {
+    let part = Part::Dates {
+        flags,
+        activation: date.to_vec(),
+        expiration: date.to_vec(),
+    };
+    let mut draft = empty.to_vec();
+    let expected = if accepted { (0, 34) } else { (19, 18) };
+    let given = library_writer::add(&mut draft, &part);
+    assert_eq!(given, Answer::new(expected.0, expected.1), "{part:?}");
+    assert_eq!(draft == empty, !accepted);
 }
 
 /// The writer's addition, in the years around 0, 400 and 10,000.
@@ -148,18 +180,9 @@ fn every_day_added_by_the_writer() {
     for year in (0..=404).chain(9890..=10_003) {
         for month in 0..=13 {
             for day in 0..=32 {
-                let date = date(year, month, day).to_vec();
-                let exists = date_exists(&date);
-                let part = Part::Dates {
-                    flags: 1,
-                    activation: date.clone(),
-                    expiration: date,
-                };
-                let mut draft = empty.clone();
-                let expected = if exists { (0, 34) } else { (19, 18) };
-                let given = library_writer::add(&mut draft, &part);
-                assert_eq!(given, Answer::new(expected.0, expected.1), "{part:?}");
-                assert_eq!(draft == empty, !exists);
+                let date = date(year, month, day);
+                add_both(&empty, 0, date, true);
+                add_both(&empty, 1, date, date_exists(&date));
             }
         }
     }

@@ -140,14 +140,16 @@ fn fields_of_section_14s_subsections() {
     }
     assert_eq!(added(&draft, protection(32, 8, 16)), answer(0, 80));
     let day = [7, 0xD0, 2, 29, 0];
-    let dates = |activation: usize, expiration: usize| Part::Dates {
-        flags: 0,
-        activation: day[..activation].to_vec(),
-        expiration: day[..expiration].to_vec(),
-    };
-    for (activation, expiration) in [(3, 4), (5, 4), (4, 3), (4, 5), (0, 0), (5, 3)] {
-        let given = added(&draft, dates(activation, expiration));
-        assert_eq!(given, answer(24, 18), "{activation} {expiration}");
+    for flags in [0, 1] {
+        let dates = |activation: usize, expiration: usize| Part::Dates {
+            flags,
+            activation: day[..activation].to_vec(),
+            expiration: day[..expiration].to_vec(),
+        };
+        for (activation, expiration) in [(3, 4), (5, 4), (4, 3), (4, 5), (0, 0), (5, 3)] {
+            let given = added(&draft, dates(activation, expiration));
+            assert_eq!(given, answer(24, 18), "{activation} {expiration}");
+        }
+        assert_eq!(added(&draft, dates(4, 4)), answer(0, 34));
     }
-    assert_eq!(added(&draft, dates(4, 4)), answer(0, 34));
 }

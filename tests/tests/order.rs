@@ -289,6 +289,15 @@ fn protection_and_dates_fields() {
         (80 + 10, 3, 19),
     ];
     mend_in_order(token.clone(), &faults, 80);
+    // With flags 0 dates are no fault: what comes after them is told.
+    let kept = dates_with_flags(0, [0xFF; 4], [0; 4]);
+    let judged = dates_with_flags(1, [0xFF; 4], [0; 4]);
+    let twice = [kept.clone(), protection(), judged.clone()];
+    assert_refused(&token_of(&[information(&twice)]), 14, 96);
+    let before = [kept.clone(), vec![0; 3]];
+    assert_refused(&token_of(&[information(&before)]), 12, 34);
+    assert_refused(&token_of(&[information(&[judged, vec![0; 3]])]), 19, 18);
+    assert_refused(&token_of(&[information(&[kept])]), 20, 8);
     // Section 14's own fields come before its subsections.
     let faults = [(9, 1, 8), (12, 1, 10), (17, 2, 11)];
     mend_in_order(token, &faults, 8);

@@ -43,6 +43,7 @@ fn their_answers() {
         ("all_kinds", 0, 13),
         ("rules_171", 0, 173),
         ("four_rules", 0, 7),
+        ("zero_dates", 0, 5),
         ("spring", 12, 120),
         ("rule_id_twice", 9, 100),
     ];
@@ -63,6 +64,22 @@ fn their_readme_names_each() {
             sample.name
         );
     }
+}
+
+/// As two customers send them: both dates zero, the flags 0. With flags 1 the
+/// block would be refused.
+#[test]
+fn zero_dates_are_kept() {
+    let mut block = token("zero_dates");
+    for field in [5, 6] {
+        let (offset, length) = library::view(&block, 2, field).expect("a date");
+        let date = &block[offset as usize..(offset + length) as usize];
+        assert_eq!(date, [0; 4]);
+    }
+    let (flags, length) = library::view(&block, 2, 4).expect("flags");
+    assert_eq!(length, 2);
+    block[flags as usize + 1] = 1;
+    assert_eq!(library::read(&block), answer(19, 80));
 }
 
 /// The count of rules by a checker that reads a rule's subsections past the

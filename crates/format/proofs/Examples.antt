@@ -21,7 +21,7 @@ unfolding answer asAnswer reading sections section sectionRest afterSubsections 
 starred-hold = (refl, (refl, (refl, (refl, (refl, (λ b. refl, (refl, (refl, (refl, (refl, (refl, tt)))))))))))
 
 -- the parts of the smallest token
-abbrev partsT : List Part
+abbrev pub partsT : List Part
 partsT =
     record { kind = information; fields = replicate 4 0 ∷ [] }
     ∷ record { kind = protection; fields = replicate 32 0 ∷ replicate 8 0 ∷ replicate 16 0 ∷ [] }

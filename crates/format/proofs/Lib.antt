@@ -1,6 +1,7 @@
 pub mod Examples
 pub mod Numbers
 pub mod Finding
+pub mod Dates
 pub mod Fitting
 pub mod Unique
 pub mod Runs

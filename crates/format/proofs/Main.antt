@@ -11,16 +11,18 @@ use lib.ListN.{length, take, drop, getElem?, replicate}
 use Rattle.format.specs.Bytes.{All, Bytes, bigEndian, number, bytesAt}
 use Rattle.format.specs.Layout.{Fields, write, fits}
 use Rattle.format.specs.Slots.{Slot, slotBytes, fieldsIn}
-use Rattle.format.specs.Parts.{Kind, rule, isSubsection, layout, Part, size, written, writeParts, joins, WrittenForm}
-use Rattle.format.specs.Rules.{Section, ofKind}
+use Rattle.format.specs.Parts.{Kind, rule, dates, isSubsection, layout, Part, size, written, writeParts, joins, WrittenForm}
+use Rattle.format.specs.Forms.{dateExists, inOrder}
+use Rattle.format.specs.Rules.{Check, checks, Section, ofKind}
 use Rattle.format.specs.Legal.{Lawful, Complete, Legal, ruleCount, rulesOfAll, joined}
 use Rattle.format.specs.Reading.{Fault, fault, Outcome, refused, found, stated, reading, partsOf, answer}
 use Rattle.format.specs.Table.{Placed, placed, rows, columns, rowNumbers, tableOf, tableAnswer, tableAfter}
 use Rattle.format.specs.Views.{fieldAt, view, viewAnswer, nextPlace, stepAt}
 use Rattle.format.specs.GivenNumbers.{numberOf, secondOf, offsetOf, lengthOf, stepNumber, rowKind}
-use Rattle.format.specs.Writer.{writeAnswer, draftAfter, start, addition, finish}
+use Rattle.format.specs.Writer.{writeAnswer, draftAfter, start, addition, finish, dateFields}
 use Rattle.format.specs.Claims.{answerNumbers, stepNumbers, IsRow, Tiles, subsOf, ruleRows, slotsOf, chosenViews, viewsFrom, walk, walkPlace, additions, restate, sectionsEnd, lackingAt}
 use Rattle.format.specs.Examples.{tokenT, Holds, starred, springToken}
+use Rattle.format.specs.DateExamples.{withDates, datesRead}
 use Rattle.format.specs.declared.Answer.the-variants.{Accepted, Refused}
 use Rattle.format.specs.declared.Step.the-variants.{End, Stopped}
 use Rattle.format.proofs.Numbers as Numbers
@@ -39,6 +41,7 @@ use Rattle.format.proofs.Finishing as Finishing
 use Rattle.format.proofs.Numbering as Numbering
 use Rattle.format.proofs.GivenNumbers as GivenNumbers
 use Rattle.format.proofs.Refusing as Refusing
+use Rattle.format.proofs.Dates as Dates
 use Rattle.format.proofs.Examples as Examples
 
 -- ---- demand 2, of the definitions
@@ -370,6 +373,33 @@ pub added-subsection-changes : (d : List ℕ) (p : Part) (bs : List ℕ) → Byt
     ≡ restate (sectionsEnd ts) (stated (drop (sectionsEnd ts) d) + size p) (restate 0 (stated d + size p) (take (stated d) d))
     ++ write (size p) (layout (p .kind)) (p .fields))
 added-subsection-changes d p bs b f e = Additions.sub-changes d p bs b f e
+
+-- ---- request 102
+
+-- "Now the dates are judged only when the flags are 1": the rules on the fields of a 14/0002 hold exactly where the flags are
+-- 0, whatever the dates are, or 1 and both dates exist, the activation not after the expiration.
+pub dates-judged-only-with-flags-1 : (x : Bool) (flags activation expiration : List ℕ)
+    → All (λ (c : Check). c .holds ≡ true) (checks x dates (flags ∷ activation ∷ expiration ∷ []))
+    ↔ ((number flags ≡ 0)
+    ⊎ ((number flags ≡ 1) × (dateExists activation ≡ true) × (dateExists expiration ≡ true) × (inOrder activation expiration ≡ true)))
+dates-judged-only-with-flags-1 x flags a e = Dates.judged-exactly x flags a e
+
+-- "with flags 0 they are kept and the views give them": so the theorems on legal tokens speak of these too, whatever bytes
+-- their dates are.
+pub dates-kept-with-flags-0 : (activation expiration : List ℕ) → Bytes activation → Bytes expiration → length activation ≡ 4 → length expiration ≡ 4
+    → Legal (withDates 0 activation expiration)
+    × (view (withDates 0 activation expiration) 2 5 ≡ activation)
+    × (view (withDates 0 activation expiration) 2 6 ≡ expiration)
+dates-kept-with-flags-0 a e b c h k = let v = Dates.kept-viewed a e h k in (Dates.kept-legal a e b c h k, v .0, v .1)
+
+-- "and the writer follows."
+pub dates-added-with-flags-0 : (activation expiration : List ℕ) → length activation ≡ 4 → length expiration ≡ 4
+    → addition dates (dateFields 0 activation expiration) (tokenT ++ replicate 16 0) ≡ found (withDates 0 activation expiration)
+dates-added-with-flags-0 a e h k = Dates.kept-added a e h k
+
+-- "Two customers leave both dates zero and set the flags to 0": such a token is accepted; with flags 1 it is 19.
+pub dates-by-example : All Holds datesRead
+dates-by-example = Dates.dates-read
 
 -- ---- examples
 

@@ -13,3 +13,4 @@ pub mod Writer
 pub mod Lines
 pub mod Claims
 pub mod Examples
+pub mod DateExamples

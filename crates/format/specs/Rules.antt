@@ -1,6 +1,6 @@
 -- The rules beyond the layout: first those on a part's own fields, each a `Check` with its refusal, then those between parts.
 -- Beside 01: "Rules beyond the layout"; for flags, key-check, asymmetric format and MKVP "Layouts"; for `checks` numbers 11, 16 to
--- 19 and 21, and "Order".
+-- 19 and 21, and "Order". Beside 02, the requests of change: 102, dates.
 use mathlib.Core.Bool.{Bool, true, false, not, _&&_, _||_}
 use mathlib.Core.List.{List, [], _∷_}
 use Prim.Native.Nat.{ℕ}
@@ -68,6 +68,10 @@ labelLength f = eqb (length f) 0 || eqb (length f) 64
 abbrev pub mkvpAllowed : Bool → List ℕ → Bool
 mkvpAllowed x f = not x || allZero f
 
+-- 02, 102: the dates of a 14/0002 are judged only when its flags are 1
+abbrev pub datesJudged : List ℕ → Bool
+datesJudged flags = eqb (number flags) 1
+
 -- the rules on the chosen fields f of a kind, in the order in which they are tested; x: the token is external. A rule on 01's
 -- x, y, c, m or z is one on the length of the field that it counts, for m the mask
 abbrev pub checks : Bool → Kind → Fields → List Check
@@ -127,15 +131,15 @@ checks x name f = []
 checks x information f = check 4 11 (zeroOrOne (getD f 0 [])) ∷ []
 -- f: 0 encrypted MAC key, 1 MAC, 2 MKVP
 checks x protection f = check 6 21 (mkvpAllowed x (getD f 2 [])) ∷ []
--- both dates exist and are in order, whatever the flags
+-- both dates exist and are in order where they are judged; else they are any bytes
 checks x dates f =
     let flags = getD f 0 [] in
     let activation = getD f 1 [] in
     let expiration = getD f 2 [] in
     check 4 11 (zeroOrOne flags)
-    ∷ check 5 19 (dateExists activation)
-    ∷ check 6 19 (dateExists expiration)
-    ∷ check 6 19 (inOrder activation expiration)
+    ∷ check 5 19 (not (datesJudged flags) || dateExists activation)
+    ∷ check 6 19 (not (datesJudged flags) || dateExists expiration)
+    ∷ check 6 19 (not (datesJudged flags) || inOrder activation expiration)
     ∷ []
 -- f: 0 data
 checks x applicationData f = []

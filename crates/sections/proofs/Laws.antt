@@ -1,6 +1,6 @@
 -- Laws of lists of tests in the shapes that the functions ask. Assumes nothing.
 use mathlib.Core.Path.{_≡_, refl, sym, ap, _∙_}
-use mathlib.Core.Bool.{Bool, true, false, not, _&&_}
+use mathlib.Core.Bool.{Bool, true, false, not, _&&_, _||_}
 use mathlib.Core.List.{List, [], _∷_, _++_}
 use Prim.Native.Nat.{ℕ, zero, suc, _+_, _<_, _≤_}
 use native.Mathlib.Nat.{add-zero}
@@ -13,7 +13,7 @@ use Rattle.format.specs.Bytes.{number, bytesAt, allZero}
 use Rattle.format.proofs.Finding.{and-split}
 use Rattle.fields.proofs.Lists.{zero-number}
 use Rattle.fields.proofs.Numbers.{number-none, number-more}
-use Rattle.format.specs.Rules.{Check, mkvpAllowed}
+use Rattle.format.specs.Rules.{Check, check}
 use Rattle.format.specs.Reading.{stated}
 use Rattle.format.specs.declared.Answer.{Answer}
 use Rattle.format.specs.declared.Answer.the-variants.{Refused}
@@ -42,6 +42,23 @@ pass c cs e h = rw e h
 pub none : 0 ≡ firstRefusal []
 unfolding firstRefusal
 none = refl
+
+-- the tests ds are left of cs: all before them have passed
+pub record Left (cs ds : List Check) : Type 0 where
+  pub same : (n : ℕ) → n ≡ firstRefusal ds → n ≡ firstRefusal cs
+
+module _ {cs ds : List Check} {c : Check} (l : Left cs (c ∷ ds)) where
+  -- the next one passes
+  pub passed : c .holds ≡ true → Left cs ds
+  passed e = record { same = λ n h. l .same n (pass c ds e h) }
+
+  -- the next one fails
+  pub failed : c .holds ≡ false → c .refusal ≡ firstRefusal cs
+  failed e = l .same (c .refusal) (stop c ds e)
+
+-- none is left
+pub none-left : {cs : List Check} → Left cs [] → 0 ≡ firstRefusal cs
+none-left l = l .same 0 none
 
 -- each test has a number
 abbrev pub numbered : List Check → Bool
@@ -72,6 +89,20 @@ head-pass [] ds f e z q = q
 head-pass {h} {n} (c ∷ cs) ds f e z q =
     let s = and-split (not (eqb (c .refusal) 0)) (numbered cs) f in
     pass-case (c .holds) h (firstRefusal cs) n (firstRefusal (cs ++ ds)) (c .refusal) (s .0) e z (λ w. head-pass cs ds (s .1) w z q)
+
+-- a subsection's head in front of its other tests
+abbrev headed : ℕ → ℕ → Bool → List ℕ → List Check → List Check
+headed m n seen r ds = check 1 12 (leb m (stated r) && leb (stated r) n) ∷ check 0 14 (not seen) ∷ check 2 8 (allZero (bytesAt r 4 1)) ∷ ds
+
+-- it stops, or they are left
+module _ {h : ℕ} (m n : ℕ) (seen : Bool) (r : List ℕ) (ds : List Check) (e : h ≡ firstRefusal (subHeadChecks m seen n r)) where
+  pub sub-head-stop : (h ≡ 0 → ⊥) → h ≡ firstRefusal (headed m n seen r ds)
+  unfolding subHeadChecks
+  sub-head-stop z = head-stop (subHeadChecks m seen n r) ds e z
+
+  pub sub-head-left : h ≡ 0 → Left (headed m n seen r ds) ds
+  unfolding subHeadChecks
+  sub-head-left z = record { same = λ k q. head-pass (subHeadChecks m seen n r) ds refl e z q }
 
 -- a test that passes, at the end
 pub pass-last : {n : ℕ} (cs : List Check) (c : Check) → c .holds ≡ true → n ≡ firstRefusal cs → n ≡ firstRefusal (cs ++ c ∷ [])
@@ -127,6 +158,13 @@ module _ (s : List ℕ) (p o n : ℕ) {v : ℕ} (e : v ≡ number (bytesAt s (p 
   pub unequal : (k : ℕ) → (v ≡ k → ⊥) → eqb k (number (bytesAt (drop p s) o n)) ≡ false
   unequal k h = ne-eqb k _ (λ q. h (number-at s p o n e ∙ sym q))
 
+  -- with the number first
+  pub is-number : (k : ℕ) → v ≡ k → eqb (number (bytesAt (drop p s) o n)) k ≡ true
+  is-number k h = eq-eqb _ k (sym (number-at s p o n e) ∙ h)
+
+  pub other-number : (k : ℕ) → (v ≡ k → ⊥) → eqb (number (bytesAt (drop p s) o n)) k ≡ false
+  other-number k h = ne-eqb _ k (λ q. h (number-at s p o n e ∙ q))
+
 -- a field's test, made on the bytes at its place
 pub field-at : {b : Bool} (f : List ℕ → Bool) (s : List ℕ) (p o n : ℕ) → b ≡ f (bytesAt s (p + o) n) → b ≡ f (bytesAt (drop p s) o n)
 field-at f s p o n e = e ∙ sym (ap f (at-drop s p o n))
@@ -152,6 +190,10 @@ byte-number s i h =
     let e : getD s (i + 0) 0 ≡ getD s i 0 = ap (λ (j : ℕ). getD s j 0) (add-zero i) in
     omega (arith, number-more s i 0 h₀, number-none s i, e)
 
+-- one of the n bytes of a part
+pub byte-at : (s : List ℕ) (p n o : ℕ) → p + n ≤ length s → o < n → getD s (p + o) 0 ≡ number (bytesAt s (p + o) 1)
+byte-at s p n o h k = byte-number s (p + o) (omega arith)
+
 -- two tests in one check
 pub both-yes : {a b : Bool} → a ≡ true → b ≡ true → (a && b) ≡ true
 both-yes e f = rw e f
@@ -162,9 +204,9 @@ first-not b e = rw e
 pub second-not : {a b : Bool} → a ≡ true → b ≡ false → (a && b) ≡ false
 second-not e f = rw e f
 
--- the pattern of an internal token is free, that of an external one all 0
-pub pattern-free : (x : Bool) (f : List ℕ) → x ≡ false → mkvpAllowed x f ≡ true
-pattern-free x f e = rw e
+-- a test that is made only where j holds: the MKVP of an external token, dates whose flags are 1
+pub not-asked : {j : Bool} (b : Bool) → j ≡ false → (not j || b) ≡ true
+not-asked b e = rw e
 
-pub pattern-zero : (x : Bool) (f : List ℕ) {b : Bool} → x ≡ true → allZero f ≡ b → mkvpAllowed x f ≡ b
-pattern-zero x f e h = rw e h
+pub asked : {j b v : Bool} → j ≡ true → b ≡ v → (not j || b) ≡ v
+asked e h = rw e h

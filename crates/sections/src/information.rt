@@ -56,7 +56,7 @@ fn protection_at(s: &[u8], q: usize, n: usize, external: bool, seen: bool) -> u3
     0
 }
 
-// The subsection 0002 at q, where n bytes are left of its section.
+// The subsection 0002 at q, where n bytes are left of its section. Its dates are judged only when its flags are 1.
 fn dates_at(s: &[u8], q: usize, n: usize, seen: bool) -> u32
     requires { ⌜ (4 ≤ n) × (q + n ≤ length (now s)) × (length (now s) ≤ 3500) ⌝ }
     ensures { λ r. ⌜ ((x : Bool) → r ≡ firstRefusal (subsectionChecks x dates seen n (drop q (now (s .entry))))) ⌝ }
@@ -71,8 +71,12 @@ fn dates_at(s: &[u8], q: usize, n: usize, seen: bool) -> u32
     if s[q + 5] != 0 {
         return 10;
     }
-    if 1 < two(s, q + 6) {
+    let flags = two(s, q + 6);
+    if 1 < flags {
         return 11;
+    }
+    if flags != 1 {
+        return 0;
     }
     if !date_exists(s, q + 8) {
         return 19;

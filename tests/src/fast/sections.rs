@@ -99,6 +99,9 @@ fn dates(subsection: &[u8], place: usize) -> Judged<()> {
     if f0 != 0 || f1 > 1 {
         return refuse(11, place);
     }
+    if f1 == 0 {
+        return Ok(());
+    }
     let activation = u32::from_be_bytes([a, b, c, d]);
     let expiration = u32::from_be_bytes([e, f, g, h]);
     if !is_date(activation) || !is_date(expiration) || activation > expiration {

@@ -302,8 +302,18 @@ pub fn bad_date(random: &mut Random) -> Vec<u8> {
     date
 }
 
+/// Flags 0 become 1, so that the dates are judged; other flags stay.
+fn judge_dates(cut: &mut CutToken, index: usize) -> Option<()> {
+    let flags = cut.pieces[index].fields.get_mut(4)?;
+    if *flags == [0, 0] {
+        *flags = vec![0, 1];
+    }
+    Some(())
+}
+
 pub fn no_such_date(cut: &mut CutToken, random: &mut Random) -> Option<Expected> {
     let index = cut.any_of(random, &[DATES])?;
+    judge_dates(cut, index)?;
     let field = random.pick(&[5, 6]);
     *cut.pieces[index].fields.get_mut(field)? = bad_date(random);
     at_piece(19, index)
@@ -315,6 +325,7 @@ pub fn dates_out_of_order(cut: &mut CutToken, random: &mut Random) -> Option<Exp
     if first == second {
         return None;
     }
+    judge_dates(cut, index)?;
     cut.pieces[index].fields[5] = second;
     cut.pieces[index].fields[6] = first;
     at_piece(19, index)

@@ -271,10 +271,16 @@ pub fn protection(random: &mut Random, id: u8) -> Part {
     }
 }
 
+/// With flags 1 two dates in order, with flags 0 any bytes.
 pub fn dates(random: &mut Random) -> Part {
-    let (activation, expiration) = values::two_dates(random);
+    let flags = random.pick(&[0, 1]);
+    let (activation, expiration) = if flags == 1 {
+        values::two_dates(random)
+    } else {
+        (values::kept_date(random), values::kept_date(random))
+    };
     Part::Dates {
-        flags: random.pick(&[0, 1]),
+        flags,
         activation,
         expiration,
     }

@@ -1,5 +1,6 @@
 //! Legal values of single fields, limits included.
 
+use super::field_faults::bad_date;
 use crate::forms::{days_of_month, is_less};
 use crate::random::Random;
 
@@ -100,6 +101,17 @@ pub fn date(random: &mut Random) -> Vec<u8> {
         _ => random.between(1, last.into()) as u8,
     };
     vec![(year / 256) as u8, (year % 256) as u8, month, day]
+}
+
+/// Four bytes where no date is judged: zeros, ones, any bytes, no date, a date.
+pub fn kept_date(random: &mut Random) -> Vec<u8> {
+    match random.below(6) {
+        0 | 1 => vec![0; 4],
+        2 => vec![0xFF; 4],
+        3 => random.bytes(4),
+        4 => bad_date(random),
+        _ => date(random),
+    }
 }
 
 /// Two dates, the first not after the second.

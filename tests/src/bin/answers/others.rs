@@ -6,7 +6,8 @@ use crate::forms::{date_exists, is_label_template, is_rule_id};
 use crate::kinds;
 use crate::reader::{read, Answer, Row};
 use crate::samples::{
-    in_line, information, protection, rule, smallest_token, smallest_with, subsection, token_of,
+    dates_with_flags, in_line, information, protection, rule, smallest_token, smallest_with,
+    token_of,
 };
 use crate::tokens::{bases, every, small_drafts, spaced};
 use crate::views::{fields_of, taken_apart, view};
@@ -38,6 +39,7 @@ pub fn ask(cases: &mut Cases) {
     labels(cases);
     given(cases);
     examples(cases);
+    examples_of_dates(cases);
 }
 
 /// The token's parts, from which it is written, and its rows.
@@ -187,7 +189,8 @@ fn dates(cases: &mut Cases) {
     }
 }
 
-/// Activation and expiration that differ in one byte, in both orders.
+/// Activation and expiration that differ in one byte, in both orders, and
+/// bytes that are no date, with flags that ask for dates and that do not.
 fn dates_in_tokens(cases: &mut Cases) {
     let day = [7, 0xD0, 2, 27];
     for other in [
@@ -199,11 +202,20 @@ fn dates_in_tokens(cases: &mut Cases) {
         [7, 0xD1, 1, 1],
         [7, 0xD0, 3, 1],
         [7, 0xD0, 2, 30],
+        [0; 4],
+        [0xFF; 4],
     ] {
         for (activation, expiration) in [(day, other), (other, day), (other, other)] {
-            let dates = subsection(2, &[&[0, 0, 0], &activation, &expiration]);
-            cases.read(&token_of(&[information(&[protection(), dates])]));
+            for flags in [0, 1, 2] {
+                let dates = dates_with_flags(flags, activation, expiration);
+                cases.read(&token_of(&[information(&[protection(), dates])]));
+            }
         }
+    }
+    let kept = dates_with_flags(0, [0; 4], [0xFF; 4]);
+    let token = token_of(&[information(&[protection(), kept])]);
+    for field in [4, 5, 6, 7] {
+        cases.view(&token, 2, field);
     }
 }
 
@@ -330,23 +342,45 @@ fn examples(cases: &mut Cases) {
         (5, &tokens[5]),
         (5, &tokens[6]),
     ] {
-        example(cases, turn, bytes);
+        example(cases, "starred", turn, bytes);
     }
     for (turn, day) in days.iter().enumerate() {
         let says = u8::from(date_exists(day));
         cases.ask(
-            &format!("example {} date {}", turn + 6, hex(day)),
+            &format!("example starred {} date {}", turn + 6, hex(day)),
             &says.to_string(),
         );
     }
-    example(cases, 9, &with_rule(b"        "));
-    example(cases, 10, &with_rule(b"A       "));
+    example(cases, "starred", 9, &with_rule(b"        "));
+    example(cases, "starred", 10, &with_rule(b"A       "));
 }
 
-fn example(cases: &mut Cases, turn: usize, token: &[u8]) {
+/// The examples of request 102, in their order.
+fn examples_of_dates(cases: &mut Cases) {
+    let (none, all) = ([0; 4], [0xFF; 4]);
+    let (day, after) = ([7, 0xD0, 2, 29], [7, 0xD0, 3, 1]);
+    let tokens = [
+        (0, none, none),
+        (1, none, none),
+        (0, all, all),
+        (0, after, day),
+        (1, after, day),
+        (1, day, after),
+        (1, day, none),
+        (1, none, day),
+        (2, none, none),
+    ];
+    for (turn, (flags, activation, expiration)) in tokens.into_iter().enumerate() {
+        let dates = dates_with_flags(flags, activation, expiration);
+        let token = token_of(&[information(&[protection(), dates])]);
+        example(cases, "datesRead", turn, &token);
+    }
+}
+
+fn example(cases: &mut Cases, list: &str, turn: usize, token: &[u8]) {
     let Answer { number, second } = crate::reader::read_answer(token);
     cases.ask(
-        &format!("example {turn} read {}", hex(token)),
+        &format!("example {list} {turn} read {}", hex(token)),
         &format!("{number} {second}"),
     );
 }

@@ -147,8 +147,15 @@ fn dates(activation: [u8; 4], expiration: [u8; 4], flags: u16) -> Part {
     }
 }
 
-fn information_parts() -> [Part; 2] {
-    [protection(0), dates([7, 0xD0, 2, 29], [7, 0xD1, 3, 1], 1)]
+/// Dates that are judged, and some that are not.
+fn information_parts() -> [Part; 4] {
+    let (day, later) = ([7, 0xD0, 2, 29], [7, 0xD1, 3, 1]);
+    [
+        protection(0),
+        dates(day, later, 1),
+        dates([0; 4], [0xFF; 4], 0),
+        dates(later, day, 0),
+    ]
 }
 
 /// Exactly enough room, a byte less, some more.
@@ -231,8 +238,10 @@ fn faulty_parts() -> Vec<(Vec<u8>, Part)> {
     let on_information = [
         protection(1),
         dates([7, 0xD1, 2, 29], day, 1),
-        dates(day, [7, 0xCF, 1, 1], 0),
+        dates(day, [7, 0xCF, 1, 1], 1),
+        dates([0; 4], [0; 4], 1),
         dates(day, day, 2),
+        dates([0; 4], [0xFF; 4], 2),
     ];
     let on_header = [
         a_key(&[2], modulus(513), 0),

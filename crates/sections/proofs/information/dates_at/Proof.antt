@@ -1,226 +1,92 @@
 -- The first refusal of a subsection 0002 of section 14 is that of its tests.
-use Rattle.format.specs.Forms.{dateExists, inOrder}
-use Rattle.sections.specs.Refusals.{subHeadChecks}
-use Rattle.sections.proofs.Laws.{stop, pass, none, head-stop, head-pass, zero-yes, zero-not, at-most, above, equal, unequal, byte-number, at-drop, field-at, room-for}
-use borrow.Author.Tests.{not-true, not-false}
-use lib.ListN.{drop}
+use mathlib.Core.Path.{_≡_, sym, _∙_, ap₂}
+use mathlib.Core.Bool.{Bool, true, false}
+use mathlib.Core.List.{List}
+use Prim.Native.Nat.{ℕ, _+_, _≤_}
 use native.Mathlib.Omega.{arith}
-use Prim.Native.Nat.{_+_}
-use mathlib.Core.Path.{refl, sym, _∙_, ap₂}
+use lib.ListN.{length, drop}
+use borrow.Author.Tests.{not-true, not-false}
 use borrow.Author.Needs.{needs}
+use Rattle.format.specs.Bytes.{bytesAt}
+use Rattle.format.specs.Forms.{dateExists, inOrder}
+use Rattle.format.specs.Parts.{dates}
+use Rattle.format.specs.Rules.{Check, datesJudged}
+use Rattle.format.specs.Reading.{subsectionChecks}
+use Rattle.sections.proofs.Laws.{Left, passed, failed, none-left, sub-head-stop, sub-head-left, zero-yes, zero-not, at-most, above, equal, unequal, is-number, other-number, byte-at, at-drop, field-at, room-for, not-asked, asked}
 use Rattle.sections.proofs.information.dates_at.Statement.{statement}
 use Rattle.sections.proofs.information.dates_at.Tie as tie
 
-subsection-head-requires : tie.Need-subsection-head-requires
-subsection-head-requires c κs = search needs
+-- the tests of the subsection
+abbrev Tests : tie.Start → Bool → List Check
+Tests c x = subsectionChecks x dates (c .args .seen) (c .args .n) (drop (c .args .q) (c .args .s .now))
 
-returns : tie.Need-returns
-unfolding subHeadChecks
-returns c =
-    λ x.
-    let s = c .before .before .before .args .s .now in
-    let q = c .before .before .before .args .q in
-    let n = c .before .before .before .args .n in
-    let h = c .before .subsection-head .ensures in
-    head-stop (subHeadChecks 16 (c .before .before .before .args .seen) n (drop q s)) _ h (c .if1 .taken)
+-- the first k tests have passed
+abbrev Past : ℕ → tie.Start → Type 0
+Past k c = (x : Bool) → Left (Tests c x) (drop k (Tests c x))
 
-add-two : tie.Need-add-two
-add-two c = search needs
+-- after the head its 16 bytes are there
+room : (c : tie.Else1) → c .before .before .before .args .q + 16 ≤ length (c .before .before .before .args .s .now)
+room c =
+    let r = room-for 16 _ _ _ (c .before .subsection-head .ensures) (c .if1 .left) in
+    omega (arith, c .before .before .before .pre)
 
-two-requires : tie.Need-two-requires
-two-requires c κs = search needs
+past-1 : (c : tie.Else1) → Past 3 (c .before .before .before)
+past-1 c x = sub-head-left 16 _ _ _ _ (c .before .subsection-head .ensures) (c .if1 .left)
 
-returns-2 : tie.Need-returns-2
-unfolding subHeadChecks
-returns-2 c =
-    λ x.
-    let s = c .before .before .before .before .before .args .s .now in
-    let q = c .before .before .before .before .before .args .q in
-    let n = c .before .before .before .before .before .args .n in
-    let h = c .before .before .before .subsection-head .ensures in
-    let r = room-for 16 n (c .before .before .before .before .before .args .seen) (drop q s) h (c .before .before .if1 .left) in
-    head-pass (subHeadChecks 16 (c .before .before .before .before .before .args .seen) n (drop q s)) _ refl h (c .before .before .if1 .left)
-    (stop _ _ (unequal s q 2 2 (c .before .two .ensures .0) 16 (c .if2 .taken)))
+past-2 : (c : tie.Else2) → Past 4 (c .before .before .before .before .before)
+past-2 c x = passed (past-1 (c .before .before) x) (equal _ _ 2 2 (c .before .two .ensures .0) 16 (c .if2 .left))
 
-add-if3 : tie.Need-add-if3
-add-if3 c = search needs
+past-3 : (c : tie.Else3) → Past 5 (c .before .before .before .before .before .before .before)
+past-3 c x = passed (past-2 (c .before .before) x) (zero-yes _ _ 5 1 (byte-at _ _ 16 5 (room (c .before .before .before .before)) (omega arith)) (c .if3 .left))
 
-shared-slice-read-if3 : tie.Need-shared-slice-read-if3
-shared-slice-read-if3 c =
-    let s = c .before .before .before .before .before .before .args .s .now in
-    let q = c .before .before .before .before .before .before .args .q in
-    let n = c .before .before .before .before .before .before .args .n in
-    let h = c .before .before .before .before .subsection-head .ensures in
-    let r = room-for 16 n (c .before .before .before .before .before .before .args .seen) (drop q s) h (c .before .before .before .if1 .left) in
-    omega arith
+past-4 : (c : tie.Else4) → Past 6 (c .before .before .before .before .before .before .before .before .before)
+past-4 c x = passed (past-3 (c .before .before) x) (at-most _ _ 6 2 (c .before .two2 .ensures .0) 1 (c .if4 .left))
 
-returns-3 : tie.Need-returns-3
-unfolding subHeadChecks
-returns-3 c =
-    λ x.
-    let s = c .before .before .before .before .before .before .before .args .s .now in
-    let q = c .before .before .before .before .before .before .before .args .q in
-    let n = c .before .before .before .before .before .before .before .args .n in
-    let h = c .before .before .before .before .before .subsection-head .ensures in
-    let r = room-for 16 n (c .before .before .before .before .before .before .before .args .seen) (drop q s) h (c .before .before .before .before .if1 .left) in
-    head-pass (subHeadChecks 16 (c .before .before .before .before .before .before .before .args .seen) n (drop q s)) _ refl h (c .before .before .before .before .if1 .left)
-    (pass _ _ (equal s q 2 2 (c .before .before .before .two .ensures .0) 16 (c .before .before .if2 .left))
-    (stop _ _ (zero-not s q 5 1 (byte-number s (q + 5) (omega arith)) (c .if3 .taken))))
+-- the w bytes at offset o of the subsection
+abbrev At : tie.Start → ℕ → ℕ → List ℕ
+At c o w = bytesAt (drop (c .args .q) (c .args .s .now)) o w
 
-add-two-2 : tie.Need-add-two-2
-add-two-2 c = search needs
+-- the dates are not judged, or they are
+kept : (c : tie.Then5) → datesJudged (At (c .before .before .before .before .before .before .before .before .before .before) 6 2) ≡ false
+kept c = other-number _ _ 6 2 (c .before .before .two2 .ensures .0) 1 (c .if5 .taken)
 
-two-requires-2 : tie.Need-two-requires-2
-two-requires-2 c κs =
-    let s = c .before .before .before .before .before .before .before .args .s .now in
-    let q = c .before .before .before .before .before .before .before .args .q in
-    let n = c .before .before .before .before .before .before .before .args .n in
-    let h = c .before .before .before .before .before .subsection-head .ensures in
-    let r = room-for 16 n (c .before .before .before .before .before .before .before .args .seen) (drop q s) h (c .before .before .before .before .if1 .left) in
-    omega arith
+judged : (c : tie.Else5) → datesJudged (At (c .before .before .before .before .before .before .before .before .before .before) 6 2) ≡ true
+judged c = is-number _ _ 6 2 (c .before .before .two2 .ensures .0) 1 (c .if5 .left)
 
-returns-4 : tie.Need-returns-4
-unfolding subHeadChecks
-returns-4 c =
-    λ x.
-    let s = c .before .before .before .before .before .before .before .before .before .args .s .now in
-    let q = c .before .before .before .before .before .before .before .before .before .args .q in
-    let n = c .before .before .before .before .before .before .before .before .before .args .n in
-    let h = c .before .before .before .before .before .before .before .subsection-head .ensures in
-    let r = room-for 16 n (c .before .before .before .before .before .before .before .before .before .args .seen) (drop q s) h (c .before .before .before .before .before .before .if1 .left) in
-    head-pass (subHeadChecks 16 (c .before .before .before .before .before .before .before .before .before .args .seen) n (drop q s)) _ refl h (c .before .before .before .before .before .before .if1 .left)
-    (pass _ _ (equal s q 2 2 (c .before .before .before .before .before .two .ensures .0) 16 (c .before .before .before .before .if2 .left))
-    (pass _ _ (zero-yes s q 5 1 (byte-number s (q + 5) (omega arith)) (c .before .before .if3 .left))
-    (stop _ _ (above s q 6 2 (c .before .two2 .ensures .0) 1 (c .if4 .taken)))))
+past-6 : (c : tie.Else6) → Past 7 (c .before .before .before .before .before .before .before .before .before .before .before .before)
+past-6 c x = passed (past-4 (c .before .before .before) x) (asked (judged (c .before .before)) (sym (field-at dateExists _ _ 8 4 (c .before .date-exists .ensures)) ∙ not-false _ (c .if6 .left)))
 
-add-date-exists : tie.Need-add-date-exists
-add-date-exists c = search needs
+past-7 : (c : tie.Else7) → Past 8 (c .before .before .before .before .before .before .before .before .before .before .before .before .before .before)
+past-7 c x = passed (past-6 (c .before .before) x) (asked (judged (c .before .before .before .before)) (sym (field-at dateExists _ _ 12 4 (c .before .date-exists2 .ensures)) ∙ not-false _ (c .if7 .left)))
 
-date-exists-requires : tie.Need-date-exists-requires
-date-exists-requires c κs =
-    let s = c .before .before .before .before .before .before .before .before .before .args .s .now in
-    let q = c .before .before .before .before .before .before .before .before .before .args .q in
-    let n = c .before .before .before .before .before .before .before .before .before .args .n in
-    let h = c .before .before .before .before .before .before .before .subsection-head .ensures in
-    let r = room-for 16 n (c .before .before .before .before .before .before .before .before .before .args .seen) (drop q s) h (c .before .before .before .before .before .before .if1 .left) in
-    omega arith
-
-returns-5 : tie.Need-returns-5
-unfolding subHeadChecks
-returns-5 c =
-    λ x.
-    let s = c .before .before .before .before .before .before .before .before .before .before .before .args .s .now in
-    let q = c .before .before .before .before .before .before .before .before .before .before .before .args .q in
-    let n = c .before .before .before .before .before .before .before .before .before .before .before .args .n in
-    let h = c .before .before .before .before .before .before .before .before .before .subsection-head .ensures in
-    let r = room-for 16 n (c .before .before .before .before .before .before .before .before .before .before .before .args .seen) (drop q s) h (c .before .before .before .before .before .before .before .before .if1 .left) in
-    head-pass (subHeadChecks 16 (c .before .before .before .before .before .before .before .before .before .before .before .args .seen) n (drop q s)) _ refl h (c .before .before .before .before .before .before .before .before .if1 .left)
-    (pass _ _ (equal s q 2 2 (c .before .before .before .before .before .before .before .two .ensures .0) 16 (c .before .before .before .before .before .before .if2 .left))
-    (pass _ _ (zero-yes s q 5 1 (byte-number s (q + 5) (omega arith)) (c .before .before .before .before .if3 .left))
-    (pass _ _ (at-most s q 6 2 (c .before .before .before .two2 .ensures .0) 1 (c .before .before .if4 .left))
-    (stop _ _ (sym (field-at dateExists s q 8 4 (c .before .date-exists .ensures)) ∙ not-true _ (c .if5 .taken))))))
-
-add-date-exists-2 : tie.Need-add-date-exists-2
-add-date-exists-2 c = search needs
-
-date-exists-requires-2 : tie.Need-date-exists-requires-2
-date-exists-requires-2 c κs =
-    let s = c .before .before .before .before .before .before .before .before .before .before .before .args .s .now in
-    let q = c .before .before .before .before .before .before .before .before .before .before .before .args .q in
-    let n = c .before .before .before .before .before .before .before .before .before .before .before .args .n in
-    let h = c .before .before .before .before .before .before .before .before .before .subsection-head .ensures in
-    let r = room-for 16 n (c .before .before .before .before .before .before .before .before .before .before .before .args .seen) (drop q s) h (c .before .before .before .before .before .before .before .before .if1 .left) in
-    omega arith
-
-returns-6 : tie.Need-returns-6
-unfolding subHeadChecks
-returns-6 c =
-    λ x.
-    let s = c .before .before .before .before .before .before .before .before .before .before .before .before .before .args .s .now in
-    let q = c .before .before .before .before .before .before .before .before .before .before .before .before .before .args .q in
-    let n = c .before .before .before .before .before .before .before .before .before .before .before .before .before .args .n in
-    let h = c .before .before .before .before .before .before .before .before .before .before .before .subsection-head .ensures in
-    let r = room-for 16 n (c .before .before .before .before .before .before .before .before .before .before .before .before .before .args .seen) (drop q s) h (c .before .before .before .before .before .before .before .before .before .before .if1 .left) in
-    head-pass (subHeadChecks 16 (c .before .before .before .before .before .before .before .before .before .before .before .before .before .args .seen) n (drop q s)) _ refl h (c .before .before .before .before .before .before .before .before .before .before .if1 .left)
-    (pass _ _ (equal s q 2 2 (c .before .before .before .before .before .before .before .before .before .two .ensures .0) 16 (c .before .before .before .before .before .before .before .before .if2 .left))
-    (pass _ _ (zero-yes s q 5 1 (byte-number s (q + 5) (omega arith)) (c .before .before .before .before .before .before .if3 .left))
-    (pass _ _ (at-most s q 6 2 (c .before .before .before .before .before .two2 .ensures .0) 1 (c .before .before .before .before .if4 .left))
-    (pass _ _ (sym (field-at dateExists s q 8 4 (c .before .before .before .date-exists .ensures)) ∙ not-false _ (c .before .before .if5 .left))
-    (stop _ _ (sym (field-at dateExists s q 12 4 (c .before .date-exists2 .ensures)) ∙ not-true _ (c .if6 .taken)))))))
-
-add-in-order : tie.Need-add-in-order
-add-in-order c = search needs
-
-add-in-order-2 : tie.Need-add-in-order-2
-add-in-order-2 c = search needs
-
-in-order-requires : tie.Need-in-order-requires
-in-order-requires c κs =
-    let s = c .before .before .before .before .before .before .before .before .before .before .before .before .before .args .s .now in
-    let q = c .before .before .before .before .before .before .before .before .before .before .before .before .before .args .q in
-    let n = c .before .before .before .before .before .before .before .before .before .before .before .before .before .args .n in
-    let h = c .before .before .before .before .before .before .before .before .before .before .before .subsection-head .ensures in
-    let r = room-for 16 n (c .before .before .before .before .before .before .before .before .before .before .before .before .before .args .seen) (drop q s) h (c .before .before .before .before .before .before .before .before .before .before .if1 .left) in
-    (omega arith, omega arith)
-
-returns-7 : tie.Need-returns-7
-unfolding subHeadChecks
-returns-7 c =
-    λ x.
-    let s = c .before .before .before .before .before .before .before .before .before .before .before .before .before .before .before .args .s .now in
-    let q = c .before .before .before .before .before .before .before .before .before .before .before .before .before .before .before .args .q in
-    let n = c .before .before .before .before .before .before .before .before .before .before .before .before .before .before .before .args .n in
-    let h = c .before .before .before .before .before .before .before .before .before .before .before .before .before .subsection-head .ensures in
-    let r = room-for 16 n (c .before .before .before .before .before .before .before .before .before .before .before .before .before .before .before .args .seen) (drop q s) h (c .before .before .before .before .before .before .before .before .before .before .before .before .if1 .left) in
-    head-pass (subHeadChecks 16 (c .before .before .before .before .before .before .before .before .before .before .before .before .before .before .before .args .seen) n (drop q s)) _ refl h (c .before .before .before .before .before .before .before .before .before .before .before .before .if1 .left)
-    (pass _ _ (equal s q 2 2 (c .before .before .before .before .before .before .before .before .before .before .before .two .ensures .0) 16 (c .before .before .before .before .before .before .before .before .before .before .if2 .left))
-    (pass _ _ (zero-yes s q 5 1 (byte-number s (q + 5) (omega arith)) (c .before .before .before .before .before .before .before .before .if3 .left))
-    (pass _ _ (at-most s q 6 2 (c .before .before .before .before .before .before .before .two2 .ensures .0) 1 (c .before .before .before .before .before .before .if4 .left))
-    (pass _ _ (sym (field-at dateExists s q 8 4 (c .before .before .before .before .before .date-exists .ensures)) ∙ not-false _ (c .before .before .before .before .if5 .left))
-    (pass _ _ (sym (field-at dateExists s q 12 4 (c .before .before .before .date-exists2 .ensures)) ∙ not-false _ (c .before .before .if6 .left))
-    (stop _ _ (sym ((c .before .in-order .ensures) ∙ sym (ap₂ inOrder (at-drop s q 8 4) (at-drop s q 12 4))) ∙ not-true _ (c .if7 .taken))))))))
-
-returns-8 : tie.Need-returns-8
-unfolding subHeadChecks
-returns-8 c =
-    λ x.
-    let s = c .before .before .before .before .before .before .before .before .before .before .before .before .before .before .before .args .s .now in
-    let q = c .before .before .before .before .before .before .before .before .before .before .before .before .before .before .before .args .q in
-    let n = c .before .before .before .before .before .before .before .before .before .before .before .before .before .before .before .args .n in
-    let h = c .before .before .before .before .before .before .before .before .before .before .before .before .before .subsection-head .ensures in
-    let r = room-for 16 n (c .before .before .before .before .before .before .before .before .before .before .before .before .before .before .before .args .seen) (drop q s) h (c .before .before .before .before .before .before .before .before .before .before .before .before .if1 .left) in
-    head-pass (subHeadChecks 16 (c .before .before .before .before .before .before .before .before .before .before .before .before .before .before .before .args .seen) n (drop q s)) _ refl h (c .before .before .before .before .before .before .before .before .before .before .before .before .if1 .left)
-    (pass _ _ (equal s q 2 2 (c .before .before .before .before .before .before .before .before .before .before .before .two .ensures .0) 16 (c .before .before .before .before .before .before .before .before .before .before .if2 .left))
-    (pass _ _ (zero-yes s q 5 1 (byte-number s (q + 5) (omega arith)) (c .before .before .before .before .before .before .before .before .if3 .left))
-    (pass _ _ (at-most s q 6 2 (c .before .before .before .before .before .before .before .two2 .ensures .0) 1 (c .before .before .before .before .before .before .if4 .left))
-    (pass _ _ (sym (field-at dateExists s q 8 4 (c .before .before .before .before .before .date-exists .ensures)) ∙ not-false _ (c .before .before .before .before .if5 .left))
-    (pass _ _ (sym (field-at dateExists s q 12 4 (c .before .before .before .date-exists2 .ensures)) ∙ not-false _ (c .before .before .if6 .left))
-    (pass _ _ (sym ((c .before .in-order .ensures) ∙ sym (ap₂ inOrder (at-drop s q 8 4) (at-drop s q 12 4))) ∙ not-false _ (c .if7 .left))
-    (none)))))))
+-- what `in_order` compared is the check's condition
+ordered : (c : tie.After-in-order) → c .in-order .result ≡ inOrder (At (c .before .before .before .before .before .before .before .before .before .before .before .before .before .before .before) 8 4) (At (c .before .before .before .before .before .before .before .before .before .before .before .before .before .before .before) 12 4)
+ordered c = c .in-order .ensures ∙ sym (ap₂ inOrder (at-drop _ _ 8 4) (at-drop _ _ 12 4))
 
 pub dates-at-spec : {M : Type 1} → statement M
 dates-at-spec =
     tie.close
     (tie.spec
-    subsection-head-requires
-    returns
-    add-two
-    two-requires
-    returns-2
-    add-if3
-    shared-slice-read-if3
-    returns-3
-    add-two-2
-    two-requires-2
-    returns-4
-    add-date-exists
-    date-exists-requires
-    returns-5
-    add-date-exists-2
-    date-exists-requires-2
-    returns-6
-    add-in-order
-    add-in-order-2
-    in-order-requires
-    returns-7
-    returns-8)
+    (λ c κs. search needs)
+    (λ c x. sub-head-stop 16 _ _ _ _ (c .before .subsection-head .ensures) (c .if1 .taken))
+    (λ c. search needs)
+    (λ c κs. search needs)
+    (λ c x. failed (past-1 (c .before .before) x) (unequal _ _ 2 2 (c .before .two .ensures .0) 16 (c .if2 .taken)))
+    (λ c. search needs)
+    (λ c. let r = room (c .before .before .before) in omega arith)
+    (λ c x. failed (past-2 (c .before .before) x) (zero-not _ _ 5 1 (byte-at _ _ 16 5 (room (c .before .before .before .before)) (omega arith)) (c .if3 .taken)))
+    (λ c. search needs)
+    (λ c κs. let r = room (c .before .before .before .before) in omega arith)
+    (λ c x. failed (past-3 (c .before .before) x) (above _ _ 6 2 (c .before .two2 .ensures .0) 1 (c .if4 .taken)))
+    (λ c x. none-left (passed (passed (passed (past-4 (c .before) x) (not-asked _ (kept c))) (not-asked _ (kept c))) (not-asked _ (kept c))))
+    (λ c. search needs)
+    (λ c κs. let r = room (c .before .before .before .before .before .before .before) in omega arith)
+    (λ c x. failed (past-4 (c .before .before .before) x) (asked (judged (c .before .before)) (sym (field-at dateExists _ _ 8 4 (c .before .date-exists .ensures)) ∙ not-true _ (c .if6 .taken))))
+    (λ c. search needs)
+    (λ c κs. let r = room (c .before .before .before .before .before .before .before .before .before) in omega arith)
+    (λ c x. failed (past-6 (c .before .before) x) (asked (judged (c .before .before .before .before)) (sym (field-at dateExists _ _ 12 4 (c .before .date-exists2 .ensures)) ∙ not-true _ (c .if7 .taken))))
+    (λ c. search needs)
+    (λ c. search needs)
+    (λ c κs. let r = room (c .before .before .before .before .before .before .before .before .before .before .before) in (omega arith, omega arith))
+    (λ c x. failed (past-7 (c .before .before) x) (asked (judged (c .before .before .before .before .before .before)) (sym (ordered (c .before)) ∙ not-true _ (c .if8 .taken))))
+    (λ c x. none-left (passed (past-7 (c .before .before) x) (asked (judged (c .before .before .before .before .before .before)) (sym (ordered (c .before)) ∙ not-false _ (c .if8 .left))))))

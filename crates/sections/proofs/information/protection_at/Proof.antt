@@ -1,6 +1,6 @@
 -- The first refusal of a subsection 0001 of section 14 is that of its tests.
 use Rattle.sections.specs.Refusals.{subHeadChecks}
-use Rattle.sections.proofs.Laws.{stop, pass, none, head-stop, head-pass, zero-yes, zero-not, equal, unequal, byte-number, field-at, room-for, pattern-free, pattern-zero}
+use Rattle.sections.proofs.Laws.{stop, pass, none, head-stop, head-pass, zero-yes, zero-not, equal, unequal, byte-number, field-at, room-for, not-asked, asked}
 use Rattle.format.specs.Bytes.{bytesAt, allZero}
 use borrow.Author.Tests.{not-true, not-false}
 use lib.ListN.{drop}
@@ -75,7 +75,7 @@ returns-4 c =
     head-pass (subHeadChecks 62 (c .before .before .before .before .before .before .before .before .args .seen) n (drop q s)) _ refl h (c .before .before .before .before .before .if1 .left)
     (pass _ _ (equal s q 2 2 (c .before .before .before .before .two .ensures .0) 62 (c .before .before .before .if2 .left))
     (pass _ _ (zero-yes s q 5 1 (byte-number s (q + 5) (omega arith)) (c .before .if3 .left))
-    (pass _ _ (pattern-free (c .before .before .before .before .before .before .before .before .args .external) (bytesAt (drop q s) 46 16) (not-true (c .before .before .before .before .before .before .before .before .args .external) (c .if4 .taken))) none)))
+    (pass _ _ (not-asked (allZero (bytesAt (drop q s) 46 16)) (not-true (c .before .before .before .before .before .before .before .before .args .external) (c .if4 .taken))) none)))
 
 add-all-zero : tie.Need-add-all-zero
 add-all-zero c = search needs
@@ -100,7 +100,7 @@ returns-5 c =
     head-pass (subHeadChecks 62 (c .before .before .before .before .before .before .before .before .before .before .args .seen) n (drop q s)) _ refl h (c .before .before .before .before .before .before .before .if1 .left)
     (pass _ _ (equal s q 2 2 (c .before .before .before .before .before .before .two .ensures .0) 62 (c .before .before .before .before .before .if2 .left))
     (pass _ _ (zero-yes s q 5 1 (byte-number s (q + 5) (omega arith)) (c .before .before .before .if3 .left))
-    (stop _ _ (pattern-zero (c .before .before .before .before .before .before .before .before .before .before .args .external) (bytesAt (drop q s) 46 16) (not-false (c .before .before .before .before .before .before .before .before .before .before .args .external) (c .before .before .if4 .left)) (sym (field-at allZero s q 46 16 (c .before .all-zero .ensures)) ∙ not-true _ (c .if5 .taken))))))
+    (stop _ _ (asked (not-false (c .before .before .before .before .before .before .before .before .before .before .args .external) (c .before .before .if4 .left)) (sym (field-at allZero s q 46 16 (c .before .all-zero .ensures)) ∙ not-true _ (c .if5 .taken))))))
 
 returns-6 : tie.Need-returns-6
 unfolding subHeadChecks
@@ -113,7 +113,7 @@ returns-6 c =
     head-pass (subHeadChecks 62 (c .before .before .before .before .before .before .before .before .before .before .args .seen) n (drop q s)) _ refl h (c .before .before .before .before .before .before .before .if1 .left)
     (pass _ _ (equal s q 2 2 (c .before .before .before .before .before .before .two .ensures .0) 62 (c .before .before .before .before .before .if2 .left))
     (pass _ _ (zero-yes s q 5 1 (byte-number s (q + 5) (omega arith)) (c .before .before .before .if3 .left))
-    (pass _ _ (pattern-zero (c .before .before .before .before .before .before .before .before .before .before .args .external) (bytesAt (drop q s) 46 16) (not-false (c .before .before .before .before .before .before .before .before .before .before .args .external) (c .before .before .if4 .left)) (sym (field-at allZero s q 46 16 (c .before .all-zero .ensures)) ∙ not-false _ (c .if5 .left)))
+    (pass _ _ (asked (not-false (c .before .before .before .before .before .before .before .before .before .before .args .external) (c .before .before .if4 .left)) (sym (field-at allZero s q 46 16 (c .before .all-zero .ensures)) ∙ not-false _ (c .if5 .left)))
     (none))))
 
 pub protection-at-spec : {M : Type 1} → statement M
