@@ -74,6 +74,10 @@ fn counts_and_their_sum() {
     assert_eq!(list(&words), (1, expected, String::new()));
     let expected = format!("4 {four}\n4 in all\n");
     assert_eq!(list(&["--count", four]), (0, expected, String::new()));
+    // Dates that nobody judges: the block is billed.
+    let dates = &sample("zero_dates.token");
+    let expected = format!("2 {dates}\n2 in all\n");
+    assert_eq!(list(&["--count", dates]), (0, expected, String::new()));
 }
 
 #[test]
