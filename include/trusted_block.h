@@ -61,7 +61,7 @@ enum {
     TB_PUBLIC_KEY = 16,        /* public key rule broken */
     TB_FORM = 17,              /* Rule ID or label template form */
     TB_LENGTH_RULE = 18,       /* rule of 0003 or 0005 on lengths */
-    TB_DATE = 19,              /* date rule, asked only where the flags beside the dates are 1 */
+    TB_DATE = 19,              /* date rule; judged only when the flags of that 14/0002 are 1 */
     TB_MISSING = 20,           /* required part missing; for section 14 the place is the token's length */
     TB_MKVP = 21,              /* external token with MKVP not 0 */
     TB_NO_SUCH = 22,           /* no such row or field; place 0 */
@@ -94,7 +94,8 @@ enum {
     TB_KIND_NAME = 0x130000,              /* 3 name */
     TB_KIND_INFORMATION = 0x140000,       /* 3 reserved, 4 flags */
     TB_KIND_PROTECTION = 0x140001,        /* 3 reserved, 4 encrypted MAC key, 5 MAC, 6 MKVP */
-    TB_KIND_DATES = 0x140002,             /* 3 reserved, 4 flags, 5 activation, 6 expiration */
+    TB_KIND_DATES = 0x140002,             /* 3 reserved, 4 flags, 5 activation, 6 expiration; 5 and 6 are dates
+                                             only where 4 is 1, else any bytes */
     TB_KIND_APPLICATION_DATA = 0x150000   /* 3 data length, 4 data */
 };
 

@@ -195,7 +195,7 @@ static void buffers_without_room(size_t size)
     }
 }
 
-/* Dates with flags 0 are any bytes of four; with flags 1 they are judged, with others the flags are refused. */
+/* With flags 0 a date is any four bytes; with flags 1 dates are judged; other flags are refused. */
 static void dates_by_their_flags(void)
 {
     static const uint8_t bytes[3][4] = {{0, 0, 0, 0}, {0xFF, 0xFF, 0xFF, 0xFF}, {0x07, 0xEA, 1, 1}};

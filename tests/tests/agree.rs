@@ -123,7 +123,8 @@ impl Limits {
                 self.zero_dates += usize::from(zero);
                 self.no_activation += usize::from(exist == [false, true]);
                 self.no_expiration += usize::from(exist == [true, false]);
-                self.out_of_order += usize::from(activation > expiration);
+                let both = exist == [true, true];
+                self.out_of_order += usize::from(both && activation > expiration);
             }
             Part::Dates {
                 activation,
@@ -158,9 +159,9 @@ impl Limits {
             self.variant_255,
         ];
         assert!(counts.iter().all(|count| *count >= 20), "{self:?}");
-        // Dates that nobody judges, each sort with one in 30 dates at least.
+        // Dates that nobody judges, each sort with one in 40 dates at least.
         let dates = kinds::ALL.iter().position(|kind| *kind == kinds::DATES);
-        let least = self.kinds[dates.expect("a listed kind")] / 30;
+        let least = self.kinds[dates.expect("a listed kind")] / 40;
         for count in [
             self.zero_dates,
             self.no_activation,

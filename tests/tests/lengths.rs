@@ -148,7 +148,7 @@ fn fields_of_section_14s_subsections() {
         };
         for (activation, expiration) in [(3, 4), (5, 4), (4, 3), (4, 5), (0, 0), (5, 3)] {
             let given = added(&draft, dates(activation, expiration));
-            assert_eq!(given, answer(24, 18), "{activation} {expiration}");
+            assert_eq!(given, answer(24, 18), "{flags} {activation} {expiration}");
         }
         assert_eq!(added(&draft, dates(4, 4)), answer(0, 34));
     }

@@ -1,6 +1,6 @@
 -- The rules beyond the layout: first those on a part's own fields, each a `Check` with its refusal, then those between parts.
 -- Beside 01: "Rules beyond the layout"; for flags, key-check, asymmetric format and MKVP "Layouts"; for `checks` numbers 11, 16 to
--- 19 and 21, and "Order". Beside 02, the requests of change: 102, dates.
+-- 19 and 21, and "Order". Beside 02, the change requests: 102, dates.
 use mathlib.Core.Bool.{Bool, true, false, not, _&&_, _||_}
 use mathlib.Core.List.{List, [], _∷_}
 use Prim.Native.Nat.{ℕ}

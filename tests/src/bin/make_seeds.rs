@@ -22,6 +22,7 @@ fn main() -> std::io::Result<()> {
     let mut random = Random::new(0x7365_6564);
     let mut tokens: Vec<Vec<u8>> = samples().into_iter().map(|s| s.token).collect();
     tokens.push(token_of_all_kinds());
+    let by_hand = tokens.len();
     for _ in 0..COUNT {
         tokens.push(ordinary(&mut random).bytes);
         tokens.push(damaged(&mut random).bytes);
@@ -29,7 +30,7 @@ fn main() -> std::io::Result<()> {
     tokens.extend((0..COUNT / 10).map(|_| legal(&mut random).bytes));
     let mut calls: Vec<Vec<u8>> = tokens
         .iter()
-        .take(7)
+        .take(by_hand)
         .filter_map(|t| rebuilding(t))
         .collect();
     calls.extend((0..3 * COUNT).map(|_| coded(&sequence(&mut random))));

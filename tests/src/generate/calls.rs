@@ -1,7 +1,7 @@
 //! Sequences of writer calls, good and bad, on buffers of many sizes.
 
 use super::damage::damaged;
-use super::field_faults::{bad_date, bad_label, bad_rule_id};
+use super::field_faults::{bad_label, bad_rule_id};
 use super::legal::{self, legal};
 use super::values;
 use crate::kinds::{EXTERNAL, INTERNAL};
@@ -335,8 +335,8 @@ fn spoil_information(random: &mut Random, part: &mut Part) {
             expiration,
         } => match random.below(6) {
             0 => *flags = random.pick(&[2, 0x100]),
-            1 => *activation = bad_date(random),
-            2 => *expiration = bad_date(random),
+            1 => *activation = values::bad_date(random),
+            2 => *expiration = values::bad_date(random),
             3 => std::mem::swap(activation, expiration),
             4 => spoil_fixed(random, activation),
             _ => spoil_fixed(random, expiration),

@@ -284,24 +284,6 @@ pub fn label_length(cut: &mut CutToken, random: &mut Random) -> Option<Expected>
     at_piece(18, index)
 }
 
-/// Four bytes that are no date.
-pub fn bad_date(random: &mut Random) -> Vec<u8> {
-    let mut date = values::date(random);
-    match random.below(6) {
-        0 => date[2] = random.pick(&[0, 13, 99, 255]),
-        1 => date[3] = random.pick(&[0, 32, 99, 255]),
-        2 => date[2..].copy_from_slice(random.pick(&[&[2, 30], &[4, 31], &[11, 31], &[6, 31]])),
-        3 => {
-            let year: u16 = random.pick(&[1900, 2100, 2023, 1, 100, 9998, 9999]);
-            date[..2].copy_from_slice(&year.to_be_bytes());
-            date[2..].copy_from_slice(&[2, 29]);
-        }
-        4 => date[..2].copy_from_slice(&10_000u16.to_be_bytes()),
-        _ => date[..2].copy_from_slice(&(random.between(10_000, 65_535) as u16).to_be_bytes()),
-    }
-    date
-}
-
 /// Flags 0 become 1, so that the dates are judged; other flags stay.
 fn judge_dates(cut: &mut CutToken, index: usize) -> Option<()> {
     let flags = cut.pieces[index].fields.get_mut(4)?;
@@ -315,7 +297,7 @@ pub fn no_such_date(cut: &mut CutToken, random: &mut Random) -> Option<Expected>
     let index = cut.any_of(random, &[DATES])?;
     judge_dates(cut, index)?;
     let field = random.pick(&[5, 6]);
-    *cut.pieces[index].fields.get_mut(field)? = bad_date(random);
+    *cut.pieces[index].fields.get_mut(field)? = values::bad_date(random);
     at_piece(19, index)
 }
 

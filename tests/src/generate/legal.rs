@@ -277,7 +277,7 @@ pub fn dates(random: &mut Random) -> Part {
     let (activation, expiration) = if flags == 1 {
         values::two_dates(random)
     } else {
-        (values::kept_date(random), values::kept_date(random))
+        values::kept_dates(random)
     };
     Part::Dates {
         flags,

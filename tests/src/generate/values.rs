@@ -1,6 +1,5 @@
-//! Legal values of single fields, limits included.
+//! Legal values of single fields, limits included, and dates that are none.
 
-use super::field_faults::bad_date;
 use crate::forms::{days_of_month, is_less};
 use crate::random::Random;
 
@@ -103,8 +102,26 @@ pub fn date(random: &mut Random) -> Vec<u8> {
     vec![(year / 256) as u8, (year % 256) as u8, month, day]
 }
 
+/// Four bytes that are no date.
+pub fn bad_date(random: &mut Random) -> Vec<u8> {
+    let mut date = date(random);
+    match random.below(6) {
+        0 => date[2] = random.pick(&[0, 13, 99, 255]),
+        1 => date[3] = random.pick(&[0, 32, 99, 255]),
+        2 => date[2..].copy_from_slice(random.pick(&[&[2, 30], &[4, 31], &[11, 31], &[6, 31]])),
+        3 => {
+            let year: u16 = random.pick(&[1900, 2100, 2023, 1, 100, 9998, 9999]);
+            date[..2].copy_from_slice(&year.to_be_bytes());
+            date[2..].copy_from_slice(&[2, 29]);
+        }
+        4 => date[..2].copy_from_slice(&10_000u16.to_be_bytes()),
+        _ => date[..2].copy_from_slice(&(random.between(10_000, 65_535) as u16).to_be_bytes()),
+    }
+    date
+}
+
 /// Four bytes where no date is judged: zeros, ones, any bytes, no date, a date.
-pub fn kept_date(random: &mut Random) -> Vec<u8> {
+fn kept_date(random: &mut Random) -> Vec<u8> {
     match random.below(6) {
         0 | 1 => vec![0; 4],
         2 => vec![0xFF; 4],
@@ -112,6 +129,15 @@ pub fn kept_date(random: &mut Random) -> Vec<u8> {
         4 => bad_date(random),
         _ => date(random),
     }
+}
+
+/// Two dates that nobody judges, some of them only in the wrong order.
+pub fn kept_dates(random: &mut Random) -> (Vec<u8>, Vec<u8>) {
+    if random.once_in(5) {
+        let (first, second) = two_dates(random);
+        return (second, first);
+    }
+    (kept_date(random), kept_date(random))
 }
 
 /// Two dates, the first not after the second.
