@@ -1,6 +1,6 @@
 //! Every example of document 01 and of request 102, and those of the readings
-//! taken, against the proved library, the reader, the quick reader, the table, the listing
-//! and the writer.
+//! taken, against the proved library, the reader, the quick reader, the table,
+//! the listing and the writer.
 
 mod common;
 

@@ -13,7 +13,7 @@ use Rattle.format.specs.Bytes.{number, bytesAt, allZero}
 use Rattle.format.proofs.Finding.{and-split}
 use Rattle.fields.proofs.Lists.{zero-number}
 use Rattle.fields.proofs.Numbers.{number-none, number-more}
-use Rattle.format.specs.Rules.{Check, check}
+use Rattle.format.specs.Rules.{Check}
 use Rattle.format.specs.Reading.{stated}
 use Rattle.format.specs.declared.Answer.{Answer}
 use Rattle.format.specs.declared.Answer.the-variants.{Refused}
@@ -90,19 +90,9 @@ head-pass {h} {n} (c ∷ cs) ds f e z q =
     let s = and-split (not (eqb (c .refusal) 0)) (numbered cs) f in
     pass-case (c .holds) h (firstRefusal cs) n (firstRefusal (cs ++ ds)) (c .refusal) (s .0) e z (λ w. head-pass cs ds (s .1) w z q)
 
--- a subsection's head in front of its other tests
-abbrev headed : ℕ → ℕ → Bool → List ℕ → List Check → List Check
-headed m n seen r ds = check 1 12 (leb m (stated r) && leb (stated r) n) ∷ check 0 14 (not seen) ∷ check 2 8 (allZero (bytesAt r 4 1)) ∷ ds
-
--- it stops, or they are left
-module _ {h : ℕ} (m n : ℕ) (seen : Bool) (r : List ℕ) (ds : List Check) (e : h ≡ firstRefusal (subHeadChecks m seen n r)) where
-  pub sub-head-stop : (h ≡ 0 → ⊥) → h ≡ firstRefusal (headed m n seen r ds)
-  unfolding subHeadChecks
-  sub-head-stop z = head-stop (subHeadChecks m seen n r) ds e z
-
-  pub sub-head-left : h ≡ 0 → Left (headed m n seen r ds) ds
-  unfolding subHeadChecks
-  sub-head-left z = record { same = λ k q. head-pass (subHeadChecks m seen n r) ds refl e z q }
+-- the tests in front have passed, those after are left
+pub head-left : {h : ℕ} (cs ds : List Check) → numbered cs ≡ true → h ≡ firstRefusal cs → h ≡ 0 → Left (cs ++ ds) ds
+head-left cs ds f e z = record { same = λ n q. head-pass cs ds f e z q }
 
 -- a test that passes, at the end
 pub pass-last : {n : ℕ} (cs : List Check) (c : Check) → c .holds ≡ true → n ≡ firstRefusal cs → n ≡ firstRefusal (cs ++ c ∷ [])

@@ -1,5 +1,5 @@
 -- The first refusal of a subsection 0002 of section 14 is that of its tests.
-use mathlib.Core.Path.{_≡_, sym, _∙_, ap₂}
+use mathlib.Core.Path.{_≡_, refl, sym, _∙_, ap₂}
 use mathlib.Core.Bool.{Bool, true, false}
 use mathlib.Core.List.{List}
 use Prim.Native.Nat.{ℕ, _+_, _≤_}
@@ -12,13 +12,18 @@ use Rattle.format.specs.Forms.{dateExists, inOrder}
 use Rattle.format.specs.Parts.{dates}
 use Rattle.format.specs.Rules.{Check, datesJudged}
 use Rattle.format.specs.Reading.{subsectionChecks}
-use Rattle.sections.proofs.Laws.{Left, passed, failed, none-left, sub-head-stop, sub-head-left, zero-yes, zero-not, at-most, above, equal, unequal, is-number, other-number, byte-at, at-drop, field-at, room-for, not-asked, asked}
+use Rattle.sections.specs.Refusals.{subHeadChecks}
+use Rattle.sections.proofs.Laws.{Left, passed, failed, none-left, head-stop, head-left, zero-yes, zero-not, at-most, above, equal, unequal, is-number, other-number, byte-at, at-drop, field-at, room-for, not-asked, asked}
 use Rattle.sections.proofs.information.dates_at.Statement.{statement}
 use Rattle.sections.proofs.information.dates_at.Tie as tie
 
 -- the tests of the subsection
 abbrev Tests : tie.Start → Bool → List Check
 Tests c x = subsectionChecks x dates (c .args .seen) (c .args .n) (drop (c .args .q) (c .args .s .now))
+
+-- the first three of them, those of its head
+abbrev Head : tie.Start → List Check
+Head c = subHeadChecks 16 (c .args .seen) (c .args .n) (drop (c .args .q) (c .args .s .now))
 
 -- the first k tests have passed
 abbrev Past : ℕ → tie.Start → Type 0
@@ -31,7 +36,8 @@ room c =
     omega (arith, c .before .before .before .pre)
 
 past-1 : (c : tie.Else1) → Past 3 (c .before .before .before)
-past-1 c x = sub-head-left 16 _ _ _ _ (c .before .subsection-head .ensures) (c .if1 .left)
+unfolding subHeadChecks
+past-1 c x = head-left (Head (c .before .before .before)) _ refl (c .before .subsection-head .ensures) (c .if1 .left)
 
 past-2 : (c : tie.Else2) → Past 4 (c .before .before .before .before .before)
 past-2 c x = passed (past-1 (c .before .before) x) (equal _ _ 2 2 (c .before .two .ensures .0) 16 (c .if2 .left))
@@ -64,11 +70,12 @@ ordered : (c : tie.After-in-order) → c .in-order .result ≡ inOrder (At (c .b
 ordered c = c .in-order .ensures ∙ sym (ap₂ inOrder (at-drop _ _ 8 4) (at-drop _ _ 12 4))
 
 pub dates-at-spec : {M : Type 1} → statement M
+unfolding subHeadChecks
 dates-at-spec =
     tie.close
     (tie.spec
     (λ c κs. search needs)
-    (λ c x. sub-head-stop 16 _ _ _ _ (c .before .subsection-head .ensures) (c .if1 .taken))
+    (λ c x. head-stop (Head (c .before .before .before)) _ (c .before .subsection-head .ensures) (c .if1 .taken))
     (λ c. search needs)
     (λ c κs. search needs)
     (λ c x. failed (past-1 (c .before .before) x) (unequal _ _ 2 2 (c .before .two .ensures .0) 16 (c .if2 .taken)))
