@@ -11,6 +11,7 @@ ghost use Rattle.format.specs.Reading.{stated};
 ghost use Rattle.rules.specs.Ids.{Held};
 ghost use Rattle.contents.specs.Progress.{Stands, Ahead, Noting, SectionsRead, SomeRead, Ran};
 use fields::eight;
+use fields::page::page;
 use fields::two;
 use format::Answer;
 use rule_ids::put;
@@ -49,6 +50,7 @@ pub(crate) fn rules(s: &[u8], first: usize, rows: u32, full: bool) -> Run
     requires { ⌜ (first + 4 ≤ length (now s)) × (length (now s) ≤ 3500) × (number (bytesAt (now s) first 1) ≡ 18) × SomeRead (now s) full first rows ⌝ }
     ensures { λ r. ⌜ ((x : Bool) (seen : List Bool) → SectionsRead (now (s .entry)) full x first rows seen → Ran (now (s .entry)) full x seen first r) ⌝ }
 {
+    let characters = page();
     let mut ids = [0u64; 704];
     note_before(s, &mut ids, first);
     let mut p = first;
@@ -60,7 +62,7 @@ pub(crate) fn rules(s: &[u8], first: usize, rows: u32, full: bool) -> Run
         if s[p] != 18 {
             return Run::Next(p, n);
         }
-        let a = rule_at(s, &mut ids, p, full);
+        let a = rule_at(s, &characters, &mut ids, p, full);
         match a {
             Answer::Refused(f, at) => {
                 return Run::Fault(f, at);

@@ -1,70 +1,95 @@
 -- The classes of characters, against the characters of the format. Assumes nothing.
 use mathlib.Core.Path.{_≡_, refl, sym, ap, _∙_}
-use mathlib.Core.Bool.{Bool, true, false, _||_, and-false, or-true, true≢false}
+use mathlib.Core.Bool.{Bool, true, false, not, _&&_, _||_, and-false, true≢false}
 use mathlib.Core.Logic.{_⊎_, inl, inr, ⊎-elim}
-use native.Mathlib.Nat.{eq-or-lt-of-le}
-use Prim.Native.Nat.{ℕ, _<_, _≤_}
+use Prim.Native.Nat.{ℕ, _/_, _<_, _≤_}
 use native.Mathlib.Omega.{arith}
 use lib.Dec.{eqb, leb, ltb}
-use borrow.Author.Tests.{eq-eqb, ne-eqb, le-leb, lt-leb, leb-true, leb-false, ltb-true, ltb-false, eqb-true}
+use borrow.Author.Tests.{le-leb, lt-leb, leb-true, ltb-true, ltb-false, eqb-true}
+use Rattle.format.proofs.Finding.{and-split}
 use Rattle.format.specs.Forms.{between, letter, digit, ruleSign, labelSign, star, space, inRuleId, inLabel}
-use Rattle.fields.specs.Classes.{pick, classOf, ofClass}
+use Rattle.fields.specs.Classes.{pick, classOf, ofClass, letterClass, digitClass, ruleClass, labelClass, starClass, spaceClass, otherClass}
+use Rattle.fields.specs.Templates.{plain}
 
--- ---- ranges, as the code tests them
+pub yes-or-no : (t : Bool) → (t ≡ true) ⊎ (t ≡ false)
+yes-or-no true = inl refl
+yes-or-no false = inr refl
 
-pub inside : (lo hi b : ℕ) → lo ≤ b → leb b hi ≡ true → between lo hi b ≡ true
-inside lo hi b h e = rw (le-leb lo b h) e
+-- ---- one class at most
 
-pub past : (lo hi b : ℕ) → leb b hi ≡ false → between lo hi b ≡ false
-past lo hi b e = rw e (and-false (leb lo b))
+-- a choice of two, one of which passes
+either : (x y : Bool) → (x || y) ≡ true → (x ≡ true) ⊎ (y ≡ true)
+either true y e = inl refl
+either false y e = inr e
 
-pub early : (lo hi b : ℕ) → b < lo → between lo hi b ≡ false
-early lo hi b h = rw (lt-leb lo b h)
+-- a digit is no letter
+not-letter : (b : ℕ) → digit b ≡ true → letter b ≡ false
+not-letter b e =
+    let h : b ≤ 57 = leb-true b 57 (and-split (leb 48 b) (leb b 57) e .1) in
+    rw (lt-leb 65 b (omega arith), lt-leb 97 b (omega arith))
 
--- ---- the class of each character
+-- What holds of a class and the answers of the six tests (letter, digit, ruleSign, labelSign, star, space) holds of every
+-- character where it holds of each of the seven classes with the answers of its own.
+module _ (P : ℕ → Bool → Bool → Bool → Bool → Bool → Bool → Type 0)
+    (of-letter : P letterClass true false false false false false)
+    (of-digit : P digitClass false true false false false false)
+    (of-rule : P ruleClass false false true false false false)
+    (of-label : P labelClass false false false true false false)
+    (of-star : P starClass false false false false true false)
+    (of-space : P spaceClass false false false false false true)
+    (of-other : P otherClass false false false false false false) where
+  -- no sign, star or space: a letter, a digit or another
+  of-rest : (l d : Bool) → (d ≡ true → l ≡ false)
+      → P (pick l letterClass (pick d digitClass otherClass)) l d false false false false
+  unfolding pick
+  of-rest true true h = absurd (true≢false (h refl))
+  of-rest true false h = of-letter
+  of-rest false true h = of-digit
+  of-rest false false h = of-other
 
-here : {t : Bool} (k later : ℕ) → t ≡ true → k ≡ pick t k later
-unfolding pick
-here k later e = rw e
+  of-no-sign : (b : ℕ) → ruleSign b ≡ false → labelSign b ≡ false → star b ≡ false → space b ≡ false
+      → P (classOf b) (letter b) (digit b) (ruleSign b) (labelSign b) (star b) (space b)
+  unfolding classOf pick
+  of-no-sign b r g t p = rw (r, g, t, p) (of-rest (letter b) (digit b) (not-letter b))
 
-skip : {t : Bool} {r : ℕ} (k later : ℕ) → t ≡ false → r ≡ later → r ≡ pick t k later
-unfolding pick
-skip k later e f = rw e f
+  pub by-class : (b : ℕ) → P (classOf b) (letter b) (digit b) (ruleSign b) (labelSign b) (star b) (space b)
+  unfolding classOf pick
+  by-class b =
+      ⊎-elim
+      (λ r. ⊎-elim (λ e. rw (eqb-true b 0x2D e) of-rule) (λ e. rw (eqb-true b 0x5F e) of-rule)
+      (either (eqb b 0x2D) (eqb b 0x5F) r))
+      (λ r.
+      ⊎-elim
+      (λ g. ⊎-elim
+      (λ f. ⊎-elim (λ e. rw (eqb-true b 0x23 e) of-label) (λ e. rw (eqb-true b 0x24 e) of-label)
+      (either (eqb b 0x23) (eqb b 0x24) f))
+      (λ e. rw (eqb-true b 0x40 e) of-label)
+      (either (eqb b 0x23 || eqb b 0x24) (eqb b 0x40) g))
+      (λ g.
+      ⊎-elim (λ t. rw (eqb-true b 0x2A t) of-star)
+      (λ t. ⊎-elim (λ p. rw (eqb-true b 0x20 p) of-space) (λ p. of-no-sign b r g t p) (yes-or-no (space b)))
+      (yes-or-no (star b)))
+      (yes-or-no (labelSign b)))
+      (yes-or-no (ruleSign b))
 
-pub class-small : (b : ℕ) → between 97 122 b ≡ true → 1 ≡ classOf b
-unfolding classOf
-class-small b e = here 1 _ (ap (λ (x : Bool). between 65 90 b || x) e ∙ or-true (between 65 90 b))
+-- ---- the format's characters by their classes
 
-pub class-capital : (b : ℕ) → between 65 90 b ≡ true → 1 ≡ classOf b
-unfolding classOf
-class-capital b e = here 1 _ (ap (λ (x : Bool). x || between 97 122 b) e)
+-- a sign, a digit or a letter of a label template
+pub plain-class : (b : ℕ) → plain b ≡ ofClass labelClass digitClass b
+unfolding ofClass
+plain-class = by-class (λ c l d r g t p. (l || d || g) ≡ between labelClass digitClass c) refl refl refl refl refl refl refl
 
--- no letter
-module _ (b : ℕ) (e : between 97 122 b ≡ false) (f : between 65 90 b ≡ false) where
-  not-letter : letter b ≡ false
-  not-letter = ap (λ (x : Bool). x || between 97 122 b) f ∙ e
+pub star-class : (b : ℕ) → star b ≡ eqb (classOf b) starClass
+star-class = by-class (λ c l d r g t p. t ≡ eqb c starClass) refl refl refl refl refl refl refl
 
-  pub class-digit : between 48 57 b ≡ true → 2 ≡ classOf b
-  unfolding classOf
-  class-digit g = skip 1 _ not-letter (here 2 _ g)
+-- may stand first in a label template
+abbrev firstClass : ℕ → Bool
+firstClass c = eqb c letterClass || eqb c labelClass || eqb c starClass
 
-  -- no letter, digit or sign
-  pub class-other : between 48 57 b ≡ false → ((b ≡ 45) ⊎ (b ≡ 95) → ⊥) → (b < 35) ⊎ (36 < b) → (b ≡ 64 → ⊥)
-      → (b ≡ 42 → ⊥) → (b ≡ 32 → ⊥) → 6 ≡ classOf b
-  unfolding classOf
-  class-other g h₀ h₃ h₄ h₅ h₆ =
-      let r : ruleSign b ≡ false = rw (ne-eqb b 45 (λ e. h₀ (inl e)), ne-eqb b 95 (λ e. h₀ (inr e))) in
-      let n₁ : eqb b 35 ≡ false = ne-eqb b 35 (λ e. ⊎-elim (λ w. omega arith) (λ w. omega arith) h₃) in
-      let n₂ : eqb b 36 ≡ false = ne-eqb b 36 (λ e. ⊎-elim (λ w. omega arith) (λ w. omega arith) h₃) in
-      let l : labelSign b ≡ false = rw (n₁, n₂, ne-eqb b 64 h₄) in
-      skip 1 _ not-letter
-      (skip 2 _ g (skip 0 _ r (skip 3 _ l (skip 4 _ (ne-eqb b 42 h₅) (skip 5 6 (ne-eqb b 32 h₆) refl)))))
-
--- # and $
-pub class-sign : (b : ℕ) → 35 ≤ b → b < 37 → 3 ≡ classOf b
-unfolding classOf pick
-class-sign b h k =
-    ⊎-elim (λ (e : 35 ≡ b). rw (← e)) (λ (l : 35 < b). let e : b ≡ 36 = omega arith in rw e) (eq-or-lt-of-le h)
+pub first-class : (b c : ℕ) → c ≡ classOf b → (inLabel b && not (digit b)) ≡ firstClass c
+first-class b c e =
+    by-class (λ k l d r g t p. ((l || d || g || t) && not d) ≡ firstClass k) refl refl refl refl refl refl refl b
+    ∙ ap firstClass (sym e)
 
 -- ---- classes lo to hi, as the code tests them
 
@@ -76,119 +101,8 @@ module _ (lo hi b : ℕ) {r : ℕ} (e : r ≡ classOf b) where
 
   pub class-below : r < lo → ofClass lo hi b ≡ false
   unfolding ofClass
-  class-below h = early lo hi (classOf b) (omega (arith, e))
+  class-below h = rw (lt-leb lo (classOf b) (omega (arith, e)))
 
   pub class-above : ltb hi r ≡ true → ofClass lo hi b ≡ false
   unfolding ofClass
-  class-above k = past lo hi (classOf b) (lt-leb (classOf b) hi (omega (arith, e, ltb-true hi r k)))
-
--- ---- the format's characters by their classes
-
-pub yes-or-no : (t : Bool) → (t ≡ true) ⊎ (t ≡ false)
-yes-or-no true = inl refl
-yes-or-no false = inr refl
-
--- what a Rule ID may have; the six answers are those of letter, digit, ruleSign, labelSign, star, space
-rule-cases : (l d r g t p : Bool)
-    → (l || d || r) ≡ between 0 2 (pick l 1 (pick d 2 (pick r 0 (pick g 3 (pick t 4 (pick p 5 6))))))
-unfolding pick
-rule-cases true d r g t p = refl
-rule-cases false true r g t p = refl
-rule-cases false false true g t p = refl
-rule-cases false false false true t p = refl
-rule-cases false false false false true p = refl
-rule-cases false false false false false true = refl
-rule-cases false false false false false false = refl
-
-pub rule-class : (b : ℕ) → inRuleId b ≡ ofClass 0 2 b
-unfolding ofClass classOf
-rule-class b = rule-cases (letter b) (digit b) (ruleSign b) (labelSign b) (star b) (space b)
-
--- what a label template may have: no hyphen and no underscore
-label-cases : (l d g t p : Bool)
-    → (l || d || g || t) ≡ between 1 4 (pick l 1 (pick d 2 (pick g 3 (pick t 4 (pick p 5 6)))))
-unfolding pick
-label-cases true d g t p = refl
-label-cases false true g t p = refl
-label-cases false false true t p = refl
-label-cases false false false true p = refl
-label-cases false false false false true = refl
-label-cases false false false false false = refl
-
--- a sign of Rule IDs is one of two characters
-rule-signs : (b : ℕ) → ruleSign b ≡ true → (b ≡ 45) ⊎ (b ≡ 95)
-rule-signs b e =
-    ⊎-elim (λ t. inl (eqb-true b 45 t)) (λ t. inr (eqb-true b 95 (sym (ap (λ (x : Bool). x || eqb b 95) t) ∙ e)))
-    (yes-or-no (eqb b 45))
-
-pub label-class : (b : ℕ) → inLabel b ≡ ofClass 1 4 b
-unfolding ofClass classOf pick
-label-class b =
-    ⊎-elim (λ e. ⊎-elim (λ (n : b ≡ 45). rw n) (λ (n : b ≡ 95). rw n) (rule-signs b e))
-    (λ e. label-cases (letter b) (digit b) (labelSign b) (star b) (space b)
-    ∙ ap (λ (r : Bool). between 1 4
-    (pick (letter b) 1 (pick (digit b) 2 (pick r 0 (pick (labelSign b) 3 (pick (star b) 4 (pick (space b) 5 6)))))))
-    (sym e))
-    (yes-or-no (ruleSign b))
-
--- a test of classes that fails at a class, and at those that later tests give
-module _ (f : ℕ → Bool) (k later : ℕ) where
-  fails : (t : Bool) → f k ≡ false → f later ≡ false → f (pick t k later) ≡ false
-  unfolding pick
-  fails true e g = e
-  fails false e g = g
-
-  -- a class that is not met
-  unmet : (t : Bool) → t ≡ false → f later ≡ false → f (pick t k later) ≡ false
-  unfolding pick
-  unmet true e g = absurd (true≢false e)
-  unmet false e g = g
-
-pub space-class : (b : ℕ) → space b ≡ ofClass 5 5 b
-unfolding ofClass classOf pick
-space-class b =
-    let f = between 5 5 in
-    ⊎-elim (λ e. let n : b ≡ 32 = eqb-true b 32 e in rw n)
-    (λ e. e ∙ sym
-    (fails f 1 _ (letter b) refl
-    (fails f 2 _ (digit b) refl
-    (fails f 0 _ (ruleSign b) refl (fails f 3 _ (labelSign b) refl
-    (fails f 4 _ (star b) refl (unmet f 5 6 (space b) e refl)))))))
-    (yes-or-no (space b))
-
-pub star-class : (b : ℕ) → star b ≡ eqb (classOf b) 4
-unfolding classOf pick
-star-class b =
-    let f : ℕ → Bool = λ k. eqb k 4 in
-    ⊎-elim (λ e. let n : b ≡ 42 = eqb-true b 42 e in rw n)
-    (λ e. e ∙ sym
-    (fails f 1 _ (letter b) refl
-    (fails f 2 _ (digit b) refl
-    (fails f 0 _ (ruleSign b) refl (fails f 3 _ (labelSign b) refl
-    (unmet f 4 _ (star b) e (fails f 5 6 (space b) refl refl)))))))
-    (yes-or-no (star b))
-
--- no sign has the class of a digit
-sign-class : (b : ℕ) → eqb (pick (ruleSign b) 0
-    (pick (labelSign b) 3 (pick (star b) 4 (pick (space b) 5 6)))) 2 ≡ false
-sign-class b =
-    let f : ℕ → Bool = λ k. eqb k 2 in
-    fails f 0 _ (ruleSign b) refl (fails f 3 _ (labelSign b) refl
-    (fails f 4 _ (star b) refl (fails f 5 6 (space b) refl refl)))
-
--- a digit stands below the letters
-pub digit-class : (b : ℕ) → digit b ≡ eqb (classOf b) 2
-unfolding classOf pick
-digit-class b =
-    let f : ℕ → Bool = λ k. eqb k 2 in
-    ⊎-elim
-    (λ e.
-    let h : b < 65 = omega (arith, leb-true b 64 e) in
-    let l : letter b ≡ false = rw (lt-leb 65 b h, lt-leb 97 b (omega arith)) in
-    ⊎-elim (λ d. d ∙ sym (eq-eqb (classOf b) 2 (sym (skip 1 _ l (here 2 _ d)))))
-    (λ d. d ∙ sym (unmet f 1 _ (letter b) l (unmet f 2 _ (digit b) d (sign-class b))))
-    (yes-or-no (digit b)))
-    (λ e.
-    let d : digit b ≡ false = past 48 57 b (lt-leb b 57 (omega (arith, leb-false b 64 e))) in
-    d ∙ sym (fails f 1 _ (letter b) refl (unmet f 2 _ (digit b) d (sign-class b))))
-    (yes-or-no (leb b 64))
+  class-above k = rw (lt-leb (classOf b) hi (omega (arith, e, ltb-true hi r k))) (and-false (leb lo (classOf b)))

@@ -1,1 +1,3 @@
 pub mod Classes
+pub mod Page
+pub mod Templates

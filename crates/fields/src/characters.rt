@@ -1,56 +1,36 @@
 // Internal: characters, Rule IDs and label templates.
 ghost use mathlib.Core.Path.{_≡_};
-ghost use Prim.Native.Nat.{_+_, _-_, _≤_};
+ghost use mathlib.Core.Bool.{not, _&&_};
+ghost use Prim.Native.Nat.{ℕ, _+_, _-_, _≤_};
+ghost use lib.Dec.{eqb};
 ghost use lib.ListN.{length};
-ghost use Rattle.format.specs.Bytes.{howMany, bytesAt};
-ghost use Rattle.format.specs.Forms.{leading, star, ruleIdForm, labelForm};
-ghost use Rattle.fields.specs.Classes.{classOf, ofClass};
+ghost use Rattle.format.specs.Bytes.{every, bytesAt};
+ghost use Rattle.format.specs.Forms.{leading, digit, space, inLabel, ruleIdForm, labelForm};
+ghost use Rattle.fields.specs.Classes.{classOf, ofClass, starClass};
+ghost use Rattle.fields.specs.Page.{Page};
+ghost use Rattle.fields.specs.Templates.{afterStar};
+use crate::page::DIGIT;
+use crate::page::IN_RULE_ID;
+use crate::page::LABEL_SIGN;
+use crate::page::LETTER;
+use crate::page::STAR;
 
-// The classes of characters. Those of a Rule ID are RULE_SIGN to DIGIT, those of a label template LETTER to STAR.
-const RULE_SIGN: u8 = 0; // hyphen and underscore
-
-const LETTER: u8 = 1;
-
-const DIGIT: u8 = 2;
-
-const LABEL_SIGN: u8 = 3; // # $ @
-
-const STAR: u8 = 4;
-
-const SPACE: u8 = 5;
-
-const OTHER: u8 = 6;
-
-// The class of a character. Every test of a character is made by it.
-pub fn character(b: u8) -> u8
+// The class of a character: its sign on the page. What may stand in a Rule ID or a label template is told by it alone.
+pub fn character(page: &[u8; 256], b: u8) -> u8
+    requires { ⌜ Page (now page) ⌝ }
     ensures { λ r. ⌜ r ≡ classOf b ⌝ }
 {
-    if b'a' <= b && b <= b'z' {
-        return LETTER;
-    }
-    if b'A' <= b && b <= b'Z' {
-        return LETTER;
-    }
-    if b'0' <= b && b <= b'9' {
-        return DIGIT;
-    }
-    match b {
-        b' ' => SPACE,
-        b'-' | b'_' => RULE_SIGN,
-        b'#' | b'$' | b'@' => LABEL_SIGN,
-        b'*' => STAR,
-        _ => OTHER,
-    }
+    page[b as usize]
 }
 
 // The place after the characters of the classes lo to hi that stand from i on, before e.
-fn run_end(s: &[u8], i: usize, e: usize, lo: u8, hi: u8) -> usize
-    requires { ⌜ (i ≤ e) × (e ≤ length (now s)) ⌝ }
+fn run_end(s: &[u8], page: &[u8; 256], i: usize, e: usize, lo: u8, hi: u8) -> usize
+    requires { ⌜ (i ≤ e) × (e ≤ length (now s)) × Page (now page) ⌝ }
     ensures { λ r. ⌜ (r ≡ i + leading (ofClass lo hi) (bytesAt (now (s .entry)) i (e - i))) × (r ≤ e) ⌝ }
 {
     let mut p = i;
     while p < e {
-        let c = character(s[p]);
+        let c = character(page, s[p]);
         if c < lo || hi < c {
             return p;
         }
@@ -59,59 +39,88 @@ fn run_end(s: &[u8], i: usize, e: usize, lo: u8, hi: u8) -> usize
     p
 }
 
-// How many stars stand from i on, before e.
-fn stars(s: &[u8], i: usize, e: usize) -> usize
-    requires { ⌜ (i ≤ e) × (e ≤ length (now s)) ⌝ }
-    ensures { λ r. ⌜ r ≡ howMany star (bytesAt (now (s .entry)) i (e - i)) ⌝ }
-{
-    let mut n = 0;
-    let mut p = i;
-    while p < e {
-        if character(s[p]) == STAR {
-            n += 1;
-        }
-        p += 1;
-    }
-    n
-}
-
-// The eight bytes at i are a Rule ID: characters of one, at least one, then spaces to the end.
-pub fn rule_id_form(s: &[u8], i: usize) -> bool
-    requires { ⌜ i + 8 ≤ length (now s) ⌝ }
+// The eight bytes at i are a Rule ID: characters of one, at least one, then spaces to the end. By the first hexadecimal digits
+// of their signs: a 6, and after it none that is less than the one before. All are looked at, with no way out of the loop, since
+// the length of the next ID cannot be foreseen.
+pub fn rule_id_form(s: &[u8], page: &[u8; 256], i: usize) -> bool
+    requires { ⌜ (i + 8 ≤ length (now s)) × Page (now page) ⌝ }
     ensures { λ r. ⌜ r ≡ ruleIdForm (bytesAt (now (s .entry)) i 8) ⌝ }
 {
     let e = i + 8;
-    let p = run_end(s, i, e, RULE_SIGN, DIGIT);
-    if p == i {
+    let first = character(page, s[i]) / 16;
+    let mut before = first;
+    let mut falls = false;
+    let mut p = i + 1;
+    while p < e {
+        let c = character(page, s[p]) / 16;
+        if c < before {
+            falls = true;
+        }
+        before = c;
+        p += 1;
+    }
+    if falls {
         return false;
     }
-    run_end(s, p, e, SPACE, SPACE) == e
+    first == IN_RULE_ID
 }
 
-// The 64 bytes at i are a label template: characters of one, at least one and the first no digit, then spaces to the end;
-// at most one star, and that first or last before the spaces.
-pub fn label_form(s: &[u8], i: usize) -> bool
-    requires { ⌜ i + 64 ≤ length (now s) ⌝ }
+// The bytes from i to e are spaces. They are compared with that one value, many in a step: looked up one by one, the spaces of
+// a label template take longer than all else of it.
+fn only_spaces(s: &[u8], i: usize, e: usize) -> bool
+    requires { ⌜ (i ≤ e) × (e ≤ length (now s)) ⌝ }
+    ensures { λ r. ⌜ r ≡ every space (bytesAt (now (s .entry)) i (e - i)) ⌝ }
+{
+    let mut only = true;
+    let mut p = i;
+    while p < e {
+        if s[p] != b' ' {
+            only = false;
+        }
+        p += 1;
+    }
+    only
+}
+
+// A character of this class may stand first in a label template: a letter, # $ @ or a star.
+fn may_be_first(c: u8) -> bool
+    ensures { λ r. ⌜ ((b : ℕ) → c ≡ classOf b → r ≡ (inLabel b && not (digit b))) ⌝ }
+{
+    match c {
+        LETTER | LABEL_SIGN | STAR => true,
+        _ => false,
+    }
+}
+
+// The place after a star at p, before e, where one may stand there: the first character, of this class, is none.
+fn after_star(s: &[u8], page: &[u8; 256], first: u8, p: usize, e: usize) -> usize
+    requires { ⌜ (p ≤ e) × (e ≤ length (now s)) × Page (now page) ⌝ }
+    ensures { λ r. ⌜ (bytesAt (now (s .entry)) r (e - r) ≡ afterStar (eqb first starClass) (bytesAt (now (s .entry)) p (e - p))) × (r ≤ e) ⌝ }
+{
+    if first == STAR {
+        return p;
+    }
+    if p == e {
+        return p;
+    }
+    if character(page, s[p]) != STAR {
+        return p;
+    }
+    p + 1
+}
+
+// The 64 bytes at i are a label template: letters, digits, # $ @ and a star, the first no digit, the star first or last; then
+// spaces to the end.
+pub fn label_form(s: &[u8], page: &[u8; 256], i: usize) -> bool
+    requires { ⌜ (i + 64 ≤ length (now s)) × Page (now page) ⌝ }
     ensures { λ r. ⌜ r ≡ labelForm (bytesAt (now (s .entry)) i 64) ⌝ }
 {
     let e = i + 64;
-    let p = run_end(s, i, e, LETTER, STAR);
-    if p == i {
+    let first = character(page, s[i]);
+    if !may_be_first(first) {
         return false;
     }
-    if run_end(s, p, e, SPACE, SPACE) != e {
-        return false;
-    }
-    let first = character(s[i]);
-    if first == DIGIT {
-        return false;
-    }
-    let n = stars(s, i, p);
-    if n == 0 {
-        return true;
-    }
-    if n != 1 {
-        return false;
-    }
-    first == STAR || character(s[p - 1]) == STAR
+    let p = run_end(s, page, i + 1, e, LABEL_SIGN, DIGIT);
+    let q = after_star(s, page, first, p, e);
+    only_spaces(s, q, e)
 }

@@ -3,6 +3,7 @@
 pub mod characters; // characters.rt: characters, Rule IDs, label templates
 pub mod dates; // dates.rt: dates that exist, and their order
 pub mod keys; // keys.rt: lengths of keys, the modulus and the exponent of the public key
+pub mod page; // page.rt: the page of characters
 
 ghost use mathlib.Core.Path.{_≡_};
 ghost use Prim.Native.Nat.{_+_, _<_, _≤_};

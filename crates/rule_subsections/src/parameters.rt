@@ -8,6 +8,7 @@ ghost use Rattle.format.specs.Bytes.{number, bytesAt};
 ghost use Rattle.format.specs.Parts.{exportParameters, tokenParameters};
 ghost use Rattle.format.specs.Rules.{controlLength, variantLength};
 ghost use Rattle.format.specs.Reading.{fieldChecks, subsectionChecks};
+ghost use Rattle.fields.specs.Page.{Page};
 ghost use Rattle.sections.specs.Refusals.{firstRefusal};
 use fields::characters::label_form;
 use fields::keys::key_length;
@@ -92,8 +93,8 @@ pub fn export_at(s: &[u8], q: usize, n: usize, seen: bool) -> u32
 }
 
 // The fields of the subsection 0005 at q, with masks of m bytes and a label template of z bytes.
-fn token_fields(s: &[u8], q: usize, m: usize, z: usize) -> u32
-    requires { ⌜ (q + (10 + m + m + z) ≤ length (now s)) × (length (now s) ≤ 3500) × (m ≡ number (bytesAt (drop q (now s)) 8 1)) × (z ≡ number (bytesAt (drop q (now s)) (9 + m + m) 1)) ⌝ }
+fn token_fields(s: &[u8], page: &[u8; 256], q: usize, m: usize, z: usize) -> u32
+    requires { ⌜ (q + (10 + m + m + z) ≤ length (now s)) × (length (now s) ≤ 3500) × (m ≡ number (bytesAt (drop q (now s)) 8 1)) × (z ≡ number (bytesAt (drop q (now s)) (9 + m + m) 1)) × Page (now page) ⌝ }
     ensures { λ r. ⌜ ((x : Bool) → r ≡ firstRefusal (fieldChecks x tokenParameters (drop q (now (s .entry))))) ⌝ }
 {
     if two(s, q + 5) != 0 {
@@ -111,15 +112,15 @@ fn token_fields(s: &[u8], q: usize, m: usize, z: usize) -> u32
     if z != 64 {
         return 18;
     }
-    if !label_form(s, q + 10 + m + m) {
+    if !label_form(s, page, q + 10 + m + m) {
         return 17;
     }
     0
 }
 
 // The subsection 0005 at q, where n bytes are left of its section; seen: one stands before.
-pub fn token_at(s: &[u8], q: usize, n: usize, seen: bool) -> u32
-    requires { ⌜ (4 ≤ n) × (q + n ≤ length (now s)) × (length (now s) ≤ 3500) ⌝ }
+pub fn token_at(s: &[u8], page: &[u8; 256], q: usize, n: usize, seen: bool) -> u32
+    requires { ⌜ (4 ≤ n) × (q + n ≤ length (now s)) × (length (now s) ≤ 3500) × Page (now page) ⌝ }
     ensures { λ r. ⌜ ((x : Bool) → r ≡ firstRefusal (subsectionChecks x tokenParameters seen n (drop q (now (s .entry))))) ⌝ }
 {
     let h = subsection_head(s, q, n, 10, seen);
@@ -135,5 +136,5 @@ pub fn token_at(s: &[u8], q: usize, n: usize, seen: bool) -> u32
     if len != 10 + m + m + z {
         return 12;
     }
-    token_fields(s, q, m, z)
+    token_fields(s, page, q, m, z)
 }

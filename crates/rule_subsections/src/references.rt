@@ -5,6 +5,7 @@ ghost use Prim.Native.Nat.{_+_, _≤_};
 ghost use lib.ListN.{length, drop};
 ghost use Rattle.format.specs.Parts.{transportVariant, transportRule};
 ghost use Rattle.format.specs.Reading.{subsectionChecks};
+ghost use Rattle.fields.specs.Page.{Page};
 ghost use Rattle.sections.specs.Refusals.{firstRefusal};
 use fields::characters::rule_id_form;
 use fields::two;
@@ -30,8 +31,8 @@ pub fn variant_at(s: &[u8], q: usize, n: usize, seen: bool) -> u32
 }
 
 // The subsection 0002 or 0004 at q, where n bytes are left of its section. Both have the same tests.
-pub fn reference_at(s: &[u8], q: usize, n: usize, seen: bool) -> u32
-    requires { ⌜ (4 ≤ n) × (q + n ≤ length (now s)) × (length (now s) ≤ 3500) ⌝ }
+pub fn reference_at(s: &[u8], page: &[u8; 256], q: usize, n: usize, seen: bool) -> u32
+    requires { ⌜ (4 ≤ n) × (q + n ≤ length (now s)) × (length (now s) ≤ 3500) × Page (now page) ⌝ }
     ensures { λ r. ⌜ ((x : Bool) → r ≡ firstRefusal (subsectionChecks x transportRule seen n (drop q (now (s .entry))))) ⌝ }
 {
     let h = subsection_head(s, q, n, 14, seen);
@@ -44,7 +45,7 @@ pub fn reference_at(s: &[u8], q: usize, n: usize, seen: bool) -> u32
     if s[q + 5] != 0 {
         return 10;
     }
-    if !rule_id_form(s, q + 6) {
+    if !rule_id_form(s, page, q + 6) {
         return 17;
     }
     0

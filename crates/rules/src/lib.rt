@@ -12,6 +12,7 @@ ghost use Rattle.format.specs.Parts.{rule};
 ghost use Rattle.format.specs.Rules.{Section};
 ghost use Rattle.format.specs.Reading.{fieldChecks};
 ghost use Rattle.rule_ids.specs.Keys.{Room};
+ghost use Rattle.fields.specs.Page.{Page};
 ghost use Rattle.sections.specs.Refusals.{firstRefusal};
 ghost use Rattle.rules.specs.Ids.{Held, RuleAnswered};
 use crate::subsections::has_required;
@@ -27,11 +28,11 @@ use rule_ids::put;
 use sections::section_head;
 
 // The fields of the rule at p.
-fn rule_fields(s: &[u8], p: usize) -> u32
-    requires { ⌜ (p + 20 ≤ length (now s)) × (length (now s) ≤ 3500) ⌝ }
+fn rule_fields(s: &[u8], page: &[u8; 256], p: usize) -> u32
+    requires { ⌜ (p + 20 ≤ length (now s)) × (length (now s) ≤ 3500) × Page (now page) ⌝ }
     ensures { λ r. ⌜ ((x : Bool) → r ≡ firstRefusal (fieldChecks x rule (drop p (now (s .entry))))) ⌝ }
 {
-    if !rule_id_form(s, p + 4) {
+    if !rule_id_form(s, page, p + 4) {
         return 17;
     }
     let flags = four(s, p + 12);
@@ -54,15 +55,15 @@ fn rule_fields(s: &[u8], p: usize) -> u32
 }
 
 // The rule at p, of which four bytes are there. The Rule IDs of the rules before it are in ids, and its own is put there.
-pub fn rule_at(s: &[u8], ids: &mut [u64; 704], p: usize, full: bool) -> Answer
-    requires { ⌜ (p + 4 ≤ length (now s)) × (length (now s) ≤ 3500) × (number (bytesAt (now s) p 1) ≡ 18) × Room (now ids) ⌝ }
+pub fn rule_at(s: &[u8], page: &[u8; 256], ids: &mut [u64; 704], p: usize, full: bool) -> Answer
+    requires { ⌜ (p + 4 ≤ length (now s)) × (length (now s) ≤ 3500) × (number (bytesAt (now s) p 1) ≡ 18) × Room (now ids) × Page (now page) ⌝ }
     ensures { λ r. ⌜ ((x : Bool) (before : List Section) → Held before p (now (ids .entry)) → RuleAnswered full x before (now (s .entry)) p (now (ids .exit)) r) ⌝ }
 {
     let h = section_head(s, p, 20, false);
     if h != 0 {
         return Answer::Refused(h, p as u32);
     }
-    let f = rule_fields(s, p);
+    let f = rule_fields(s, page, p);
     if f != 0 {
         return Answer::Refused(f, p as u32);
     }
@@ -71,7 +72,7 @@ pub fn rule_at(s: &[u8], ids: &mut [u64; 704], p: usize, full: bool) -> Answer
     }
     let len = two(s, p + 2);
     if len != 20 {
-        return rule_subs(s, p, p + len, full);
+        return rule_subs(s, page, p, p + len, full);
     }
     if !has_required(s, p, full, false) {
         return Answer::Refused(20, p as u32);

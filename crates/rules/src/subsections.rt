@@ -7,6 +7,7 @@ ghost use lib.ListN.{length, drop};
 ghost use Rattle.format.specs.Parts.{rule, exportParameters, tokenParameters, Part};
 ghost use Rattle.format.specs.Rules.{has, ofKind, maskCovers, hasRequired};
 ghost use Rattle.format.specs.Reading.{stated, asAnswer, sectionRest};
+ghost use Rattle.fields.specs.Page.{Page};
 ghost use Rattle.sections.specs.Refusals.{subRefusal, sectionRows};
 ghost use Rattle.rules.specs.Loops.{Marked, Within, standing, ruleOf};
 use fields::four;
@@ -18,8 +19,8 @@ use rule_subsections::references::reference_at;
 use rule_subsections::references::variant_at;
 
 // The subsection at q of a rule, where n bytes are left; places has the place of each tag that stands before, 0 for others.
-fn rule_sub(s: &[u8], q: usize, n: usize, places: &[usize; 6]) -> u32
-    requires { ⌜ (q + n ≤ length (now s)) × (length (now s) ≤ 3500) ⌝ }
+fn rule_sub(s: &[u8], page: &[u8; 256], q: usize, n: usize, places: &[usize; 6]) -> u32
+    requires { ⌜ (q + n ≤ length (now s)) × (length (now s) ≤ 3500) × Page (now page) ⌝ }
     ensures { λ r. ⌜ ((x : Bool) (before : List Part) → Marked before (now (places .entry)) → r ≡ subRefusal x rule before n (drop q (now (s .entry)))) ⌝ }
 {
     if n < 4 {
@@ -35,9 +36,9 @@ fn rule_sub(s: &[u8], q: usize, n: usize, places: &[usize; 6]) -> u32
     let seen = places[tag] != 0;
     match tag {
         1 => variant_at(s, q, n, seen),
-        2 | 4 => reference_at(s, q, n, seen),
+        2 | 4 => reference_at(s, page, q, n, seen),
         3 => export_at(s, q, n, seen),
-        _ => token_at(s, q, n, seen),
+        _ => token_at(s, page, q, n, seen),
     }
 }
 
@@ -74,15 +75,15 @@ pub fn has_required(s: &[u8], p: usize, full: bool, exported: bool) -> bool
 }
 
 // The subsections of the rule at p, which ends at e, and its end; the rows of the section.
-pub fn rule_subs(s: &[u8], p: usize, e: usize, full: bool) -> Answer
-    requires { ⌜ (p + 20 ≤ e) × (e ≤ length (now s)) × (length (now s) ≤ 3500) × (e ≡ p + stated (drop p (now s))) ⌝ }
+pub fn rule_subs(s: &[u8], page: &[u8; 256], p: usize, e: usize, full: bool) -> Answer
+    requires { ⌜ (p + 20 ≤ e) × (e ≤ length (now s)) × (length (now s) ≤ 3500) × (e ≡ p + stated (drop p (now s))) × Page (now page) ⌝ }
     ensures { λ r. ⌜ ((x : Bool) → r ≡ asAnswer sectionRows (sectionRest full x rule p (drop p (now (s .entry))))) ⌝ }
 {
     let mut places = [0usize; 6];
     let mut q = p + 20;
     let mut n: u32 = 1;
     while q < e {
-        let f = rule_sub(s, q, e - q, &places);
+        let f = rule_sub(s, page, q, e - q, &places);
         if f != 0 {
             return Answer::Refused(f, q as u32);
         }

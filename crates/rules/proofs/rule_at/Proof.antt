@@ -19,8 +19,8 @@ use Rattle.rules.proofs.rule_at.Tie as tie
 section-head-requires : tie.Need-section-head-requires
 section-head-requires c κs = search needs
 
-cast-t9 : tie.Need-cast-t9
-cast-t9 c = search needs
+cast-t10 : tie.Need-cast-t10
+cast-t10 c = search needs
 
 returns : tie.Need-returns
 unfolding headChecks
@@ -38,10 +38,10 @@ rule-fields-requires c κs =
     let s = c .before .before .before .args .s .now in
     let p = c .before .before .before .args .p in
     let m = head-room 20 false s p (c .before .section-head .ensures) (c .if1 .left) in
-    (omega (arith, m .0, m .1), search needs)
+    (omega (arith, m .0, m .1), search needs, c .before .before .before .pre .4)
 
-cast-t10 : tie.Need-cast-t10
-cast-t10 c = search needs
+cast-t11 : tie.Need-cast-t11
+cast-t11 c = search needs
 
 returns-2 : tie.Need-returns-2
 unfolding headChecks
@@ -71,8 +71,8 @@ put-requires c κs =
     let p = c .before .before .before .before .before .before .before .args .p in
     (key-some s p (c .before .before .before .rule-fields .ensures false) (c .before .before .if2 .left) (c .eight .ensures), c .before .before .before .before .before .before .before .pre .3)
 
-cast-t15 : tie.Need-cast-t15
-cast-t15 c = search needs
+cast-t16 : tie.Need-cast-t16
+cast-t16 c = search needs
 
 returns-3 : tie.Need-returns-3
 unfolding headChecks
@@ -107,7 +107,7 @@ rule-subs-requires c κs =
     let p = c .before .before .before .before .before .before .before .before .before .before .before .args .p in
     let m = head-room 20 false s p (c .before .before .before .before .before .before .before .before .before .section-head .ensures) (c .before .before .before .before .before .before .before .before .if1 .left) in
     let l = number-at s p 2 2 (c .before .two .ensures .0) in
-    (omega (arith, m .0), omega (arith, m .1), search needs, ap (λ (n : ℕ). p + n) l)
+    (omega (arith, m .0), omega (arith, m .1), search needs, ap (λ (n : ℕ). p + n) l, c .before .before .before .before .before .before .before .before .before .before .before .pre .4)
 
 returns-4 : tie.Need-returns-4
 unfolding headChecks
@@ -135,8 +135,8 @@ has-required-requires c κs =
     let m = head-room 20 false s p (c .before .before .before .before .before .before .before .before .before .section-head .ensures) (c .before .before .before .before .before .before .before .before .if1 .left) in
     omega (arith, m .0, m .1)
 
-cast-t18 : tie.Need-cast-t18
-cast-t18 c = search needs
+cast-t19 : tie.Need-cast-t19
+cast-t19 c = search needs
 
 returns-5 : tie.Need-returns-5
 unfolding headChecks
@@ -181,15 +181,15 @@ rule-at-spec =
     tie.close
     (tie.spec
     section-head-requires
-    cast-t9
+    cast-t10
     returns
     rule-fields-requires
-    cast-t10
+    cast-t11
     returns-2
     add-eight
     eight-requires
     put-requires
-    cast-t15
+    cast-t16
     returns-3
     add-two
     two-requires
@@ -197,6 +197,6 @@ rule-at-spec =
     rule-subs-requires
     returns-4
     has-required-requires
-    cast-t18
+    cast-t19
     returns-5
     returns-6)

@@ -15,170 +15,155 @@ use Rattle.contents.proofs.runs.rules.Statement.{statement}
 use Rattle.contents.proofs.runs.rules.Tie as tie
 
 abbrev Inv-loop : tie.InvT-loop
-Inv-loop s first rows full ids₀ p₀ n₀ ids p n = (first ≤ p) × ((x : Bool) (seen : List Bool) → SectionsRead s full x first rows seen → Running s full x seen p n ids)
+Inv-loop s first rows full characters ids₀ p₀ n₀ ids p n = (first ≤ p) × ((x : Bool) (seen : List Bool) → SectionsRead s full x first rows seen → Running s full x seen p n ids)
 
 abbrev μ-loop : tie.MeasureT-loop
-μ-loop s first rows full ids₀ p₀ n₀ ids p n = length s - p
+μ-loop s first rows full characters ids₀ p₀ n₀ ids p n = length s - p
 
--- src/runs.rt:53:5
+page-requires : tie.Need-page-requires Inv-loop μ-loop
+page-requires c κs = search needs
+
 note-before-requires : tie.Need-note-before-requires Inv-loop μ-loop
 note-before-requires c κs =
-    let w = c .before .before .pre .3 .1 .1 in
-    (c .before .before .pre .1, w .ends, held-none 8 (omega arith), (w .before, w .ahead))
+    let w = c .before .before .before .pre .3 .1 .1 in
+    (c .before .before .before .pre .1, w .ends, held-none 8 (omega arith), (w .before, w .ahead))
 
--- src/runs.rt:56:5
 loop-holds : tie.Need-loop-holds Inv-loop μ-loop
 loop-holds c = (omega arith, λ x seen w. record { read = w; held = c .note-before .ensures (w .before) (w .ahead) })
 
--- src/runs.rt:57:22
 add-if1 : tie.Need-add-if1 Inv-loop μ-loop
 add-if1 c =
-    let d = c .before .before .before .before .before .pre .3 in
-    let v = c .before .loop .inv .1 (d .0) (d .1 .0) (d .1 .1) in
-    let short = c .before .before .before .before .before .pre .1 in
-    let ends = v .read .ends in
-    let few = v .read .few in
-    omega arith
-
--- src/runs.rt:58:34
-cast-t17 : tie.Need-cast-t17 Inv-loop μ-loop
-cast-t17 c =
     let d = c .before .before .before .before .before .before .pre .3 in
-    let v = c .before .before .loop .inv .1 (d .0) (d .1 .0) (d .1 .1) in
+    let v = c .before .loop .inv .1 (d .0) (d .1 .0) (d .1 .1) in
     let short = c .before .before .before .before .before .before .pre .1 in
     let ends = v .read .ends in
     let few = v .read .few in
     omega arith
 
--- src/runs.rt:58:13
+cast-t19 : tie.Need-cast-t19 Inv-loop μ-loop
+cast-t19 c =
+    let d = c .before .before .before .before .before .before .before .pre .3 in
+    let v = c .before .before .loop .inv .1 (d .0) (d .1 .0) (d .1 .1) in
+    let short = c .before .before .before .before .before .before .before .pre .1 in
+    let ends = v .read .ends in
+    let few = v .read .few in
+    omega arith
+
 returns : tie.Need-returns Inv-loop μ-loop
 returns c = λ x seen w. run-short (c .before .before .loop .inv .1 x seen w) (c .before .loop-test .taken) (c .if1 .taken)
 
--- src/runs.rt:60:12
 shared-slice-read-if2 : tie.Need-shared-slice-read-if2 Inv-loop μ-loop
 shared-slice-read-if2 c = c .before .before .loop-test .taken
 
--- src/runs.rt:61:13
 returns-2 : tie.Need-returns-2 Inv-loop μ-loop
 returns-2 c =
     λ x seen w.
-    let h = c .before .before .before .before .before .before .before .before .pre .0 in
-    (c .before .before .before .before .loop .inv .1 x seen w .read, later (c .before .before .before .before .before .before .before .before .args .s .now) (c .before .before .before .before .before .before .before .before .args .first) (c .before .before .before .before .loop .p) (c .before .before .before .before .loop .inv .0) (omega arith) (c .before .before .before .before .before .before .before .before .pre .2) (c .if2 .taken))
+    let h = c .before .before .before .before .before .before .before .before .before .pre .0 in
+    (c .before .before .before .before .loop .inv .1 x seen w .read, later (c .before .before .before .before .before .before .before .before .before .args .s .now) (c .before .before .before .before .before .before .before .before .before .args .first) (c .before .before .before .before .loop .p) (c .before .before .before .before .loop .inv .0) (omega arith) (c .before .before .before .before .before .before .before .before .before .pre .2) (c .if2 .taken))
 
--- src/runs.rt:63:13
 rule-at-requires : tie.Need-rule-at-requires Inv-loop μ-loop
 rule-at-requires c κs =
-    let d = c .before .before .before .before .before .before .before .before .before .pre .3 in
-    let v = c .before .before .before .before .before .loop .inv .1 (d .0) (d .1 .0) (d .1 .1) in
-    let short = c .before .before .before .before .before .before .before .before .before .pre .1 in
+    let d = c .before .before .before .before .before .before .before .before .before .before .before .pre .3 in
+    let v = c .before .before .before .before .before .before .loop .inv .1 (d .0) (d .1 .0) (d .1 .1) in
+    let short = c .before .before .before .before .before .before .before .before .before .before .before .pre .1 in
     let ends = v .read .ends in
     let few = v .read .few in
-    let four = c .before .before .before .if1 .left in
-    (omega arith, short, sym (byte-number (c .before .before .before .before .before .before .before .before .before .args .s .now) (c .before .before .before .before .before .loop .p) (c .before .before .before .before .loop-test .taken)) ∙ c .before .if2 .left, held-room (v .held) (omega arith))
+    let four = c .before .before .before .before .if1 .left in
+    (omega arith, short, sym (byte-number (c .before .before .before .before .before .before .before .before .before .before .before .args .s .now) (c .before .before .before .before .before .before .loop .p) (c .before .before .before .before .before .loop-test .taken)) ∙ c .before .before .if2 .left, held-room (v .held) (omega arith), c .before .before .before .before .before .before .before .before .before .page .ensures)
 
--- src/runs.rt:65:29
 enum-known-a : tie.Need-enum-known-a Inv-loop μ-loop
 enum-known-a c = search needs
 
--- src/runs.rt:66:17
 returns-3 : tie.Need-returns-3 Inv-loop μ-loop
 returns-3 c =
     λ x seen w.
-    let v = c .before .before .before .before .before .before .before .before .before .loop .inv .1 x seen w in
-    run-refused v (c .before .before .before .before .before .before .before .before .loop-test .taken) (c .before .before .before .rule-at .ensures x (v .read .before) (v .held)) (c .before .a .given .1)
+    let v = c .before .before .before .before .before .before .before .before .before .before .loop .inv .1 x seen w in
+    run-refused v (c .before .before .before .before .before .before .before .before .before .loop-test .taken) (c .before .before .before .rule-at .ensures x (v .read .before) (v .held)) (c .before .a .given .1)
 
--- src/runs.rt:68:30
 enum-known-a-2 : tie.Need-enum-known-a-2 Inv-loop μ-loop
 enum-known-a-2 c = search needs
 
--- src/runs.rt:69:17
 add-n : tie.Need-add-n Inv-loop μ-loop
 add-n c =
-    let d = c .before .before .before .before .before .before .before .before .before .before .before .before .before .pre .3 in
-    let v = c .before .before .before .before .before .before .before .before .before .loop .inv .1 (d .0) (d .1 .0) (d .1 .1) in
-    let short = c .before .before .before .before .before .before .before .before .before .before .before .before .before .pre .1 in
+    let d = c .before .before .before .before .before .before .before .before .before .before .before .before .before .before .before .pre .3 in
+    let v = c .before .before .before .before .before .before .before .before .before .before .loop .inv .1 (d .0) (d .1 .0) (d .1 .1) in
+    let short = c .before .before .before .before .before .before .before .before .before .before .before .before .before .before .before .pre .1 in
     let ends = v .read .ends in
     let few = v .read .few in
-    let f = run-found v (c .before .before .before .before .before .before .before .before .loop-test .taken) (c .before .before .before .rule-at .ensures (d .0) (v .read .before) (v .held)) (c .before .a2 .given .1) in
+    let f = run-found v (c .before .before .before .before .before .before .before .before .before .loop-test .taken) (c .before .before .before .rule-at .ensures (d .0) (v .read .before) (v .held)) (c .before .a2 .given .1) in
     let four = f .four in
     let inside = f .inside in
     let rows = f .few in
     omega arith
 
--- src/runs.rt:72:21
 add-two : tie.Need-add-two Inv-loop μ-loop
 add-two c =
-    let d = c .before .before .before .before .before .before .before .before .before .before .before .before .before .pre .3 in
-    let v = c .before .before .before .before .before .before .before .before .before .loop .inv .1 (d .0) (d .1 .0) (d .1 .1) in
-    let short = c .before .before .before .before .before .before .before .before .before .before .before .before .before .pre .1 in
+    let d = c .before .before .before .before .before .before .before .before .before .before .before .before .before .before .before .pre .3 in
+    let v = c .before .before .before .before .before .before .before .before .before .before .loop .inv .1 (d .0) (d .1 .0) (d .1 .1) in
+    let short = c .before .before .before .before .before .before .before .before .before .before .before .before .before .before .before .pre .1 in
     let ends = v .read .ends in
     let few = v .read .few in
-    let f = run-found v (c .before .before .before .before .before .before .before .before .loop-test .taken) (c .before .before .before .rule-at .ensures (d .0) (v .read .before) (v .held)) (c .before .a2 .given .1) in
+    let f = run-found v (c .before .before .before .before .before .before .before .before .before .loop-test .taken) (c .before .before .before .rule-at .ensures (d .0) (v .read .before) (v .held)) (c .before .a2 .given .1) in
     let four = f .four in
     let inside = f .inside in
     let rows = f .few in
     omega arith
 
--- src/runs.rt:72:14
 two-requires : tie.Need-two-requires Inv-loop μ-loop
 two-requires c κs =
-    let d = c .before .before .before .before .before .before .before .before .before .before .before .before .before .pre .3 in
-    let v = c .before .before .before .before .before .before .before .before .before .loop .inv .1 (d .0) (d .1 .0) (d .1 .1) in
-    let short = c .before .before .before .before .before .before .before .before .before .before .before .before .before .pre .1 in
+    let d = c .before .before .before .before .before .before .before .before .before .before .before .before .before .before .before .pre .3 in
+    let v = c .before .before .before .before .before .before .before .before .before .before .loop .inv .1 (d .0) (d .1 .0) (d .1 .1) in
+    let short = c .before .before .before .before .before .before .before .before .before .before .before .before .before .before .before .pre .1 in
     let ends = v .read .ends in
     let few = v .read .few in
-    let f = run-found v (c .before .before .before .before .before .before .before .before .loop-test .taken) (c .before .before .before .rule-at .ensures (d .0) (v .read .before) (v .held)) (c .before .a2 .given .1) in
+    let f = run-found v (c .before .before .before .before .before .before .before .before .before .loop-test .taken) (c .before .before .before .rule-at .ensures (d .0) (v .read .before) (v .held)) (c .before .a2 .given .1) in
     let four = f .four in
     let inside = f .inside in
     let rows = f .few in
     omega arith
 
--- src/runs.rt:72:9
 add-p : tie.Need-add-p Inv-loop μ-loop
 add-p c =
-    let d = c .before .before .before .before .before .before .before .before .before .before .before .before .before .before .pre .3 in
-    let v = c .before .before .before .before .before .before .before .before .before .before .loop .inv .1 (d .0) (d .1 .0) (d .1 .1) in
-    let short = c .before .before .before .before .before .before .before .before .before .before .before .before .before .before .pre .1 in
+    let d = c .before .before .before .before .before .before .before .before .before .before .before .before .before .before .before .before .pre .3 in
+    let v = c .before .before .before .before .before .before .before .before .before .before .before .loop .inv .1 (d .0) (d .1 .0) (d .1 .1) in
+    let short = c .before .before .before .before .before .before .before .before .before .before .before .before .before .before .before .before .pre .1 in
     let ends = v .read .ends in
     let few = v .read .few in
-    let f = run-found v (c .before .before .before .before .before .before .before .before .before .loop-test .taken) (c .before .before .before .before .rule-at .ensures (d .0) (v .read .before) (v .held)) (c .before .before .a2 .given .1) in
+    let f = run-found v (c .before .before .before .before .before .before .before .before .before .before .loop-test .taken) (c .before .before .before .before .rule-at .ensures (d .0) (v .read .before) (v .held)) (c .before .before .a2 .given .1) in
     let four = f .four in
     let inside = f .inside in
     let rows = f .few in
-    let l : c .two .result ≡ stated (drop (c .before .before .before .before .before .before .before .before .before .before .loop .p) (c .before .before .before .before .before .before .before .before .before .before .before .before .before .before .args .s .now)) = number-at (c .before .before .before .before .before .before .before .before .before .before .before .before .before .before .args .s .now) (c .before .before .before .before .before .before .before .before .before .before .loop .p) 2 2 (c .two .ensures .0) in
+    let l : c .two .result ≡ stated (drop (c .before .before .before .before .before .before .before .before .before .before .before .loop .p) (c .before .before .before .before .before .before .before .before .before .before .before .before .before .before .before .before .args .s .now)) = number-at (c .before .before .before .before .before .before .before .before .before .before .before .before .before .before .before .before .args .s .now) (c .before .before .before .before .before .before .before .before .before .before .before .loop .p) 2 2 (c .two .ensures .0) in
     omega arith
 
--- src/runs.rt:56:5
 loop-less : tie.Need-loop-less Inv-loop μ-loop
 loop-less c =
-    let d = c .before .before .before .before .before .before .before .before .before .before .before .before .before .before .pre .3 in
-    let v = c .before .before .before .before .before .before .before .before .before .before .loop .inv .1 (d .0) (d .1 .0) (d .1 .1) in
-    let short = c .before .before .before .before .before .before .before .before .before .before .before .before .before .before .pre .1 in
+    let d = c .before .before .before .before .before .before .before .before .before .before .before .before .before .before .before .before .pre .3 in
+    let v = c .before .before .before .before .before .before .before .before .before .before .before .loop .inv .1 (d .0) (d .1 .0) (d .1 .1) in
+    let short = c .before .before .before .before .before .before .before .before .before .before .before .before .before .before .before .before .pre .1 in
     let ends = v .read .ends in
     let few = v .read .few in
-    let f = run-found v (c .before .before .before .before .before .before .before .before .before .loop-test .taken) (c .before .before .before .before .rule-at .ensures (d .0) (v .read .before) (v .held)) (c .before .before .a2 .given .1) in
+    let f = run-found v (c .before .before .before .before .before .before .before .before .before .before .loop-test .taken) (c .before .before .before .before .rule-at .ensures (d .0) (v .read .before) (v .held)) (c .before .before .a2 .given .1) in
     let four = f .four in
     let inside = f .inside in
     let rows = f .few in
-    let l : c .two .result ≡ stated (drop (c .before .before .before .before .before .before .before .before .before .before .loop .p) (c .before .before .before .before .before .before .before .before .before .before .before .before .before .before .args .s .now)) = number-at (c .before .before .before .before .before .before .before .before .before .before .before .before .before .before .args .s .now) (c .before .before .before .before .before .before .before .before .before .before .loop .p) 2 2 (c .two .ensures .0) in
-    let h = c .before .before .before .before .before .before .before .before .before .loop-test .taken in
+    let l : c .two .result ≡ stated (drop (c .before .before .before .before .before .before .before .before .before .before .before .loop .p) (c .before .before .before .before .before .before .before .before .before .before .before .before .before .before .before .before .args .s .now)) = number-at (c .before .before .before .before .before .before .before .before .before .before .before .before .before .before .before .before .args .s .now) (c .before .before .before .before .before .before .before .before .before .before .before .loop .p) 2 2 (c .two .ensures .0) in
+    let h = c .before .before .before .before .before .before .before .before .before .before .loop-test .taken in
     omega arith
 
--- src/runs.rt:56:5
 loop-again : tie.Need-loop-again Inv-loop μ-loop
 loop-again c =
-    let l : c .two .result ≡ stated (drop (c .before .before .before .before .before .before .before .before .before .before .loop .p) (c .before .before .before .before .before .before .before .before .before .before .before .before .before .before .args .s .now)) = number-at (c .before .before .before .before .before .before .before .before .before .before .before .before .before .before .args .s .now) (c .before .before .before .before .before .before .before .before .before .before .loop .p) 2 2 (c .two .ensures .0) in (
-      omega (arith, c .before .before .before .before .before .before .before .before .before .before .loop .inv .0),
+    let l : c .two .result ≡ stated (drop (c .before .before .before .before .before .before .before .before .before .before .before .loop .p) (c .before .before .before .before .before .before .before .before .before .before .before .before .before .before .before .before .args .s .now)) = number-at (c .before .before .before .before .before .before .before .before .before .before .before .before .before .before .before .before .args .s .now) (c .before .before .before .before .before .before .before .before .before .before .before .loop .p) 2 2 (c .two .ensures .0) in (
+      omega (arith, c .before .before .before .before .before .before .before .before .before .before .before .loop .inv .0),
       λ x seen w.
-          let v = c .before .before .before .before .before .before .before .before .before .before .loop .inv .1 x seen w in
-          run-more v (c .before .before .before .before .before .before .before .before .before .loop-test .taken) (c .before .before .before .before .rule-at .ensures x (v .read .before) (v .held)) (c .before .before .a2 .given .1) (c .before .before .before .before .before .before .if2 .left) l,
+          let v = c .before .before .before .before .before .before .before .before .before .before .before .loop .inv .1 x seen w in
+          run-more v (c .before .before .before .before .before .before .before .before .before .before .loop-test .taken) (c .before .before .before .before .rule-at .ensures x (v .read .before) (v .held)) (c .before .before .a2 .given .1) (c .before .before .before .before .before .before .before .if2 .left) l,
     )
 
--- src/runs.rt:48:1
 returns-4 : tie.Need-returns-4 Inv-loop μ-loop
 returns-4 c =
     λ x seen w.
-    let h = c .before .before .before .before .before .pre .0 in
+    let h = c .before .before .before .before .before .before .pre .0 in
     (c .before .loop .inv .1 x seen w .read, omega (arith, c .loop-test .left))
 
 pub rules-spec : {M : Type 1} → statement M
@@ -187,10 +172,11 @@ rules-spec =
     (tie.spec
     Inv-loop
     μ-loop
+    page-requires
     note-before-requires
     loop-holds
     add-if1
-    cast-t17
+    cast-t19
     returns
     shared-slice-read-if2
     returns-2

@@ -1,50 +1,25 @@
--- A label template, test by test, from the runs, the first and last character and the count of stars. Assumes nothing.
-use mathlib.Core.Path.{refl, sym}
-use Rattle.fields.proofs.Labels.{label-none, label-other, label-spaces, Template, label-digit, label-plain, label-many, label-first, label-last}
+-- A label template, from its first character, the run after it, the star and the spaces. Assumes nothing.
+use mathlib.Core.Path.{sym, ap, _∙_}
+use mathlib.Core.Bool.{Bool, _&&_}
+use mathlib.Core.List.{List}
+use native.Mathlib.Omega.{arith}
+use lib.Dec.{eqb}
+use lib.ListN.{getD}
+use Prim.Native.Nat.{_+_}
+use Rattle.format.specs.Bytes.{every}
+use Rattle.format.specs.Forms.{space}
+use Rattle.fields.specs.Classes.{labelClass, digitClass, starClass}
+use Rattle.fields.specs.Templates.{plain, afterStar}
+use Rattle.fields.proofs.Classes.{plain-class}
+use Rattle.fields.proofs.Runs.{run-left}
+use Rattle.fields.proofs.Templates.{label-told}
+use borrow.Author.Tests.{not-true, not-false}
 use borrow.Author.Needs.{needs}
 use Rattle.fields.proofs.characters.label_form.Statement.{statement}
 use Rattle.fields.proofs.characters.label_form.Tie as tie
 
--- what is known once the first character is read
-found : (c : tie.After-character)
-    → Template (c .before .before .before .before .before .before .before .args .s .now)
-    (c .before .before .before .before .before .before .before .args .i)
-    (c .before .before .before .before .before .run-end .result) (c .character .result)
-found c =
-    let r = c .before .before in
-    let x = r .before .before .before .run-end .ensures in
-    let a = r .before .before .before .before .before in
-    let some = r .before .before .if1 .left in
-    record {
-      fits = a .pre;
-      run = x .0;
-      some = some;
-      within = x .1;
-      spaces = label-spaces (a .args .s .now) (a .args .i) (a .pre) (x .0) some (x .1)
-          (r .before .run-end2 .ensures .0) (r .if2 .left);
-      class = c .character .ensures;
-    }
-
 add-e : tie.Need-add-e
 add-e c = search needs
-
-run-end-requires : tie.Need-run-end-requires
-run-end-requires c κs = search needs
-
-returns : tie.Need-returns
-returns c =
-    let a = c .before .before .before in
-    sym (label-none (a .args .s .now) (a .args .i) (a .pre) (c .before .run-end .ensures .0) (c .if1 .taken))
-
-run-end-requires-2 : tie.Need-run-end-requires-2
-run-end-requires-2 c κs = search needs
-
-returns-2 : tie.Need-returns-2
-returns-2 c =
-    let a = c .before .before .before .before .before in
-    let x = c .before .before .before .run-end .ensures in
-    sym (label-other (a .args .s .now) (a .args .i) (a .pre) (x .0) (c .before .before .if1 .left) (x .1)
-    (c .before .run-end2 .ensures .0) (c .if2 .taken))
 
 shared-slice-read-character : tie.Need-shared-slice-read-character
 shared-slice-read-character c = search needs
@@ -52,58 +27,55 @@ shared-slice-read-character c = search needs
 character-requires : tie.Need-character-requires
 character-requires c κs = search needs
 
-returns-3 : tie.Need-returns-3
-returns-3 c = sym (label-digit (found (c .before)) refl (c .if3 .taken))
+may-be-first-requires : tie.Need-may-be-first-requires
+may-be-first-requires c κs = search needs
 
-stars-requires : tie.Need-stars-requires
-stars-requires c κs = search needs
+returns : tie.Need-returns
+returns c =
+    let a = c .before .before .before .before .before in
+    let k = c .before .before .character .ensures in
+    let f = c .before .may-be-first in
+    let b = getD (a .args .s .now) (a .args .i) 0 in
+    sym (label-told (a .args .s .now) (a .args .i) k (a .pre .0) ∙ rw (← f .ensures b k, not-true (f .result) (c .if1 .taken)))
 
-returns-4 : tie.Need-returns-4
-returns-4 c = sym (label-plain (found (c .before .before .before)) (c .before .stars .ensures)
-    (c .before .before .if3 .left) (c .if4 .taken))
+add-run-end : tie.Need-add-run-end
+add-run-end c = search needs
 
-returns-5 : tie.Need-returns-5
-returns-5 c = sym (label-many (found (c .before .before .before .before)) (c .before .before .stars .ensures)
-    (c .before .before .before .if3 .left) (c .before .if4 .left) (c .if5 .taken))
+run-end-requires : tie.Need-run-end-requires
+run-end-requires c κs = search needs
 
-sub-character : tie.Need-sub-character
-sub-character c = search needs
+after-star-requires : tie.Need-after-star-requires
+after-star-requires c κs = search needs
 
-shared-slice-read-character-2 : tie.Need-shared-slice-read-character-2
-shared-slice-read-character-2 c = search needs
+only-spaces-requires : tie.Need-only-spaces-requires
+only-spaces-requires c κs = search needs
 
-character-requires-2 : tie.Need-character-requires-2
-character-requires-2 c κs = search needs
-
-returns-6 : tie.Need-returns-6
-returns-6 c = label-first (found (c .before .before .before .before .before))
-    (c .before .before .before .stars .ensures) (c .before .before .before .before .if3 .left) (c .before .if5 .left)
-    (c .if6 .taken)
-
-returns-7 : tie.Need-returns-7
-returns-7 c =
-    label-last (found (c .before .before .before .before .before .before .before))
-    (c .before .before .before .before .before .stars .ensures)
-    (c .before .before .before .before .before .before .if3 .left) (c .before .before .before .if5 .left)
-    (c .before .before .if6 .left) (c .character2 .ensures)
+returns-2 : tie.Need-returns-2
+returns-2 c =
+    let a = c .before .before .before .before .before .before .before .before in
+    let s = a .args .s .now in
+    let i = a .args .i in
+    let k = c .before .before .before .before .before .character in
+    let f = c .before .before .before .before .may-be-first in
+    let r = c .before .before .run-end .ensures in
+    let b = getD s i 0 in
+    c .only-spaces .ensures
+    ∙ ap (every space) (c .before .after-star .ensures .0
+    ∙ ap (afterStar (eqb (k .result) starClass))
+    (sym (run-left plain labelClass digitClass plain-class s (i + 1) (i + 64) (omega (arith, a .pre .0)) (a .pre .0) (r .0) (r .1))))
+    ∙ sym (label-told s i (k .ensures) (a .pre .0) ∙ rw (← f .ensures b (k .ensures), not-false (f .result) (c .before .before .before .if1 .left)))
 
 pub label-form-spec : {M : Type 1} → statement M
 label-form-spec =
     tie.close
     (tie.spec
     add-e
-    run-end-requires
-    returns
-    run-end-requires-2
-    returns-2
     shared-slice-read-character
     character-requires
-    returns-3
-    stars-requires
-    returns-4
-    returns-5
-    sub-character
-    shared-slice-read-character-2
-    character-requires-2
-    returns-6
-    returns-7)
+    may-be-first-requires
+    returns
+    add-run-end
+    run-end-requires
+    after-star-requires
+    only-spaces-requires
+    returns-2)

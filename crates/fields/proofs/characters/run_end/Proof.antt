@@ -15,13 +15,13 @@ use Rattle.fields.proofs.characters.run_end.Statement.{statement}
 use Rattle.fields.proofs.characters.run_end.Tie as tie
 
 abbrev Inv-loop : tie.InvT-loop
-Inv-loop s i e lo hi p₀ p =
+Inv-loop s page i e lo hi p₀ p =
     (i ≤ p)
     × (p ≤ e)
     × (p + leading (ofClass lo hi) (bytesAt s p (e - p)) ≡ i + leading (ofClass lo hi) (bytesAt s i (e - i)))
 
 abbrev μ-loop : tie.MeasureT-loop
-μ-loop s i e lo hi p₀ p = e - p
+μ-loop s page i e lo hi p₀ p = e - p
 
 loop-holds : tie.Need-loop-holds Inv-loop μ-loop
 loop-holds c = (search needs, search needs, refl)

@@ -134,7 +134,7 @@ token-fields-requires c κs =
     let w = c .before .wide2 .result in
     let b₀ : w ≡ number (bytesAt (drop q s) (9 + v + v) 1) = byte-behind s q (9 + v + v) (q + 9 + v + v) (omega arith) (omega arith) (c .before .wide2 .ensures .0) in
     let b : w ≡ j = b₀ ∙ ap (λ (i : ℕ). number (bytesAt (drop q s) (9 + i + i) 1)) a in
-    (omega (arith, c .if3 .left), search needs, a, b₀)
+    (omega (arith, c .if3 .left), search needs, a, b₀, c .before .before .before .before .before .before .before .before .before .before .pre .3)
 
 returns-4 : tie.Need-returns-4
 unfolding subHeadChecks

@@ -77,7 +77,7 @@ rule-id-form-requires c κs =
     let n = c .before .before .before .before .before .before .before .args .n in
     let h = c .before .before .before .before .before .subsection-head .ensures in
     let r = room-for 14 n (c .before .before .before .before .before .before .before .args .seen) (drop q s) h (c .before .before .before .before .if1 .left) in
-    omega arith
+    (omega arith, c .before .before .before .before .before .before .before .pre .3)
 
 returns-4 : tie.Need-returns-4
 unfolding subHeadChecks

@@ -19,10 +19,10 @@ use Rattle.rules.proofs.subsections.rule_subs.Statement.{statement}
 use Rattle.rules.proofs.subsections.rule_subs.Tie as tie
 
 abbrev Inv-loop : tie.InvT-loop
-Inv-loop s p e full places₀ q₀ n₀ places q n = RuleRead s p e q n places
+Inv-loop s page p e full places₀ q₀ n₀ places q n = RuleRead s p e q n places
 
 abbrev μ-loop : tie.MeasureT-loop
-μ-loop s p e full places₀ q₀ n₀ places q n = e - q
+μ-loop s page p e full places₀ q₀ n₀ places q n = e - q
 
 add-q : tie.Need-add-q Inv-loop μ-loop
 add-q c = search needs
@@ -46,10 +46,10 @@ rule-sub-requires c κs =
     let full = c .before .before .before .before .args .full in
     let q = c .before .before .loop .q in
     let w = c .before .before .loop .inv in
-    (omega (arith, w .ends), search needs)
+    (omega (arith, w .ends), search needs, c .before .before .before .before .pre .4)
 
-cast-t15 : tie.Need-cast-t15 Inv-loop μ-loop
-cast-t15 c =
+cast-t16 : tie.Need-cast-t16 Inv-loop μ-loop
+cast-t16 c =
     let s = c .before .before .before .before .before .before .args .s .now in
     let p = c .before .before .before .before .before .before .args .p in
     let e = c .before .before .before .before .before .before .args .e in
@@ -209,8 +209,8 @@ mask-covers-requires c κs =
     let w = c .before .loop .inv in
     (search needs, w .once exportParameters refl .within, w .once tokenParameters refl .within)
 
-cast-t26 : tie.Need-cast-t26 Inv-loop μ-loop
-cast-t26 c =
+cast-t27 : tie.Need-cast-t27 Inv-loop μ-loop
+cast-t27 c =
     let s = c .before .before .before .before .before .args .s .now in
     let p = c .before .before .before .before .before .args .p in
     let e = c .before .before .before .before .before .args .e in
@@ -242,8 +242,8 @@ has-required-requires c κs =
     let w = c .before .before .before .loop .inv in
     omega arith
 
-cast-t28 : tie.Need-cast-t28 Inv-loop μ-loop
-cast-t28 c = search needs
+cast-t29 : tie.Need-cast-t29 Inv-loop μ-loop
+cast-t29 c = search needs
 
 returns-3 : tie.Need-returns-3 Inv-loop μ-loop
 returns-3 c =
@@ -279,7 +279,7 @@ rule-subs-spec =
     loop-holds
     sub-rule-sub
     rule-sub-requires
-    cast-t15
+    cast-t16
     returns
     two-requires
     mul-places
@@ -293,9 +293,9 @@ rule-subs-spec =
     array-read-a
     array-read-b
     mask-covers-requires
-    cast-t26
+    cast-t27
     returns-2
     has-required-requires
-    cast-t28
+    cast-t29
     returns-3
     returns-4)
