@@ -1,9 +1,9 @@
 //! The tokens that are measured.
 
-use trusted_block_tests::generate::legal;
+use trusted_block_tests::generate::{legal, values};
 use trusted_block_tests::random::Random;
 use trusted_block_tests::samples::{
-    rule, section, smallest_token, smallest_with, token_of_all_kinds,
+    rule, section, smallest_token, smallest_with, subsection, token_of_all_kinds,
 };
 
 pub struct Sample {
@@ -22,7 +22,13 @@ pub fn samples() -> Vec<Sample> {
     vec![
         sample("T, the smallest token", 0, smallest_token()),
         sample("T with 171 bare rules", 0, smallest_with(&shuffled_rules())),
+        sample(
+            "171 bare rules, random IDs",
+            0,
+            smallest_with(&random_rules()),
+        ),
         sample("all twelve kinds", 0, token_of_all_kinds()),
+        sample("five label templates", 0, smallest_with(&labelled_rules())),
         sample("refused late", 9, refused_late()),
         sample("276 rows, the most", 0, most_rows()),
         sample(
@@ -65,6 +71,32 @@ fn numbered_rule(number: usize) -> Vec<u8> {
     let text = format!("{:<8}", format!("R{number}"));
     let rule_id: [u8; 8] = text.into_bytes().try_into().expect("eight signs");
     rule(&rule_id, &[])
+}
+
+/// 171 bare rules whose Rule IDs have one to eight random signs each.
+fn random_rules() -> Vec<Vec<u8>> {
+    let mut random = Random::new(0x7261_6E64);
+    let mut ids: Vec<Vec<u8>> = Vec::new();
+    while ids.len() < 171 {
+        let id = values::rule_id(&mut random);
+        if !ids.contains(&id) {
+            ids.push(id);
+        }
+    }
+    let bare = |id: Vec<u8>| rule(&id.try_into().expect("eight signs"), &[]);
+    ids.into_iter().map(bare).collect()
+}
+
+/// Five rules with a label template of its own each.
+fn labelled_rules() -> Vec<Vec<u8>> {
+    let mut random = Random::new(0x6C61_6265);
+    let labelled = |number| {
+        let label = values::label_template(&mut random);
+        let parameters = subsection(5, &[&[0, 0, 0, 0, 64], &label]);
+        let id = format!("LABEL{number}  ").into_bytes();
+        rule(&id.try_into().expect("eight signs"), &[parameters])
+    };
+    (0..5).map(labelled).collect()
 }
 
 /// The token of 171 rules whose last Rule ID is that of the rule before.

@@ -1,5 +1,6 @@
-// Internal: the rules that follow each other. Only this function keeps Rule IDs, so that a token without rules does not pay
-// for the set. The other kinds stand once each, so there are at most five runs, and the IDs of earlier runs are put in again.
+// Internal: the rules that follow each other. Only this function keeps Rule IDs and makes the page of characters, so that a
+// token without rules pays for neither. The other kinds stand once each, so there are at most five runs, and the IDs of earlier
+// runs are put in again.
 ghost use mathlib.Core.Path.{_≡_};
 ghost use mathlib.Core.Bool.{Bool};
 ghost use mathlib.Core.List.{List, [], _∷_, _++_};
