@@ -87,7 +87,7 @@ fn random_rules() -> Vec<Vec<u8>> {
     ids.into_iter().map(bare).collect()
 }
 
-/// Five rules with a label template of its own each.
+/// Five rules, each with its own label template.
 fn labelled_rules() -> Vec<Vec<u8>> {
     let mut random = Random::new(0x6C61_6265);
     let labelled = |number| {

@@ -2,14 +2,13 @@
 use mathlib.Core.Path.{_≡_, refl, sym, ap, _∙_}
 use mathlib.Core.Bool.{Bool, true, false, not, _&&_, _||_, and-false, true≢false}
 use mathlib.Core.Logic.{_⊎_, inl, inr, ⊎-elim}
-use Prim.Native.Nat.{ℕ, _/_, _<_, _≤_}
+use Prim.Native.Nat.{ℕ, _<_, _≤_}
 use native.Mathlib.Omega.{arith}
 use lib.Dec.{eqb, leb, ltb}
 use borrow.Author.Tests.{le-leb, lt-leb, leb-true, ltb-true, ltb-false, eqb-true}
 use Rattle.format.proofs.Finding.{and-split}
-use Rattle.format.specs.Forms.{between, letter, digit, ruleSign, labelSign, star, space, inRuleId, inLabel}
+use Rattle.format.specs.Forms.{between, letter, digit, ruleSign, labelSign, star, space, inLabel}
 use Rattle.fields.specs.Classes.{pick, classOf, ofClass, letterClass, digitClass, ruleClass, labelClass, starClass, spaceClass, otherClass}
-use Rattle.fields.specs.Templates.{plain}
 
 pub yes-or-no : (t : Bool) → (t ≡ true) ⊎ (t ≡ false)
 yes-or-no true = inl refl
@@ -74,7 +73,10 @@ module _ (P : ℕ → Bool → Bool → Bool → Bool → Bool → Bool → Type
 
 -- ---- the format's characters by their classes
 
--- a sign, a digit or a letter of a label template
+-- a letter, a digit, or one of # $ @
+abbrev pub plain : ℕ → Bool
+plain b = letter b || digit b || labelSign b
+
 pub plain-class : (b : ℕ) → plain b ≡ ofClass labelClass digitClass b
 unfolding ofClass
 plain-class = by-class (λ c l d r g t p. (l || d || g) ≡ between labelClass digitClass c) refl refl refl refl refl refl refl

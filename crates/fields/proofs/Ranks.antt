@@ -3,7 +3,7 @@
 use mathlib.Core.Path.{_≡_, refl, sym, ap, _∙_}
 use mathlib.Core.Bool.{Bool, true, false, _&&_, _||_}
 use mathlib.Core.List.{List, [], _∷_}
-use Prim.Native.Nat.{ℕ, suc, _+_, _-_, _/_, _<_, _≤_}
+use Prim.Native.Nat.{ℕ, _+_, _-_, _/_, _<_, _≤_}
 use native.Mathlib.Omega.{arith}
 use lib.Dec.{eqb, leb, leb·suc-suc, leb·zero}
 use lib.ListN.{length, getD, drop}
@@ -15,7 +15,8 @@ use Rattle.fields.proofs.Lists.{bytes-next, bytes-start}
 use Rattle.fields.proofs.Classes.{by-class}
 use Rattle.fields.proofs.Runs.{leading-more, leading-stop, flag-falls, flag-stays}
 
-abbrev pub rank : ℕ → ℕ
+-- the first hexadecimal digit of a character's class
+abbrev rank : ℕ → ℕ
 rank b = classOf b / 16
 
 -- the ranks do not fall, the first of them not below r
@@ -31,27 +32,27 @@ data Ranked (n : ℕ) (w v : Bool) : Type 0 where
 
 ranked : (b : ℕ) → Ranked (rank b) (inRuleId b) (space b)
 ranked =
-    by-class (λ c l d r g t p. Ranked (c / 16) (l || d || r) p) (inside refl refl refl) (inside refl refl refl) (inside refl refl refl)
-    (neither refl refl refl refl refl) (neither refl refl refl refl refl) (blank refl refl refl)
-    (neither refl refl refl refl refl)
+    by-class (λ c l d r g t p. Ranked (c / 16) (l || d || r) p) (inside refl refl refl) (inside refl refl refl)
+    (inside refl refl refl) (neither refl refl refl refl refl) (neither refl refl refl refl refl)
+    (blank refl refl refl) (neither refl refl refl refl refl)
 
 -- after a space
-spaces-left : (bs : List ℕ) → steady 7 bs ≡ every space bs
-spaces-left [] = refl
-spaces-left (b ∷ bs) =
+after-space : (bs : List ℕ) → steady 7 bs ≡ every space bs
+after-space [] = refl
+after-space (b ∷ bs) =
     elim (ranked b) [
       | inside w v n ↦ rw (n, v)
-      | blank w v n ↦ rw (n, v) (spaces-left bs)
+      | blank w v n ↦ rw (n, v) (after-space bs)
       | neither w v m k j ↦ rw (j, v)
     ]
 
 -- after a character of a Rule ID
-run-left : (bs : List ℕ) → steady 6 bs ≡ every space (drop (leading inRuleId bs) bs)
-run-left [] = refl
-run-left (b ∷ bs) =
+after-characters : (bs : List ℕ) → steady 6 bs ≡ every space (drop (leading inRuleId bs) bs)
+after-characters [] = refl
+after-characters (b ∷ bs) =
     elim (ranked b) [
-      | inside w v n ↦ rw (leading-more inRuleId b bs w, n) (run-left bs)
-      | blank w v n ↦ rw (leading-stop inRuleId b bs w, n, v) (spaces-left bs)
+      | inside w v n ↦ rw (leading-more inRuleId b bs w, n) (after-characters bs)
+      | blank w v n ↦ rw (leading-stop inRuleId b bs w, n, v) (after-space bs)
       | neither w v m k j ↦ rw (leading-stop inRuleId b bs w, k, v)
     ]
 
@@ -59,7 +60,7 @@ pub rule-id-steady : (b : ℕ) (bs : List ℕ) → ruleIdForm (b ∷ bs) ≡ (eq
 unfolding ruleIdForm
 rule-id-steady b bs =
     elim (ranked b) [
-      | inside w v n ↦ rw (leading-more inRuleId b bs w, n, leb·suc-suc, leb·zero) (sym (run-left bs))
+      | inside w v n ↦ rw (leading-more inRuleId b bs w, n, leb·suc-suc, leb·zero) (sym (after-characters bs))
       | blank w v n ↦ rw (leading-stop inRuleId b bs w, n)
       | neither w v m k j ↦ rw (leading-stop inRuleId b bs w, m)
     ]

@@ -1,44 +1,35 @@
 -- A label template as its first character and what follows it. Assumes nothing.
 use mathlib.Core.Path.{_≡_, refl, sym, ap, _∙_}
-use mathlib.Core.Bool.{Bool, true, false, not, _&&_, _||_, and-true, and-false, and-comm, or-false, true≢false}
+use mathlib.Core.Bool.{Bool, true, false, not, _&&_, _||_, and-true, and-false, and-comm, or-false}
 use mathlib.Core.List.{List, [], _∷_}
-use mathlib.Core.Logic.{⊎-elim}
 use Prim.Native.Nat.{ℕ, zero, suc, _+_, _-_, _<_, _≤_}
 use native.Mathlib.Omega.{arith}
 use native.Mathlib.Nat.{zero-add, suc-sub-suc, sub-zero}
 use native.Mathlib.Numerals.{one-add}
 use lib.Dec.{eqb, leb, eqb·suc-zero, leb·suc-suc, leb·suc-zero, leb·zero}
 use lib.ListN.{length, getD, take, drop}
-use borrow.Author.Tests.{eqb-true, eq-eqb, ne-eqb}
+use borrow.Author.Tests.{eq-eqb, ne-eqb}
 use Rattle.format.specs.Bytes.{every, howMany, bytesAt}
-use Rattle.format.specs.Forms.{leading, letter, digit, labelSign, star, space, inLabel, labelForm}
+use Rattle.format.specs.Forms.{leading, digit, star, space, inLabel, labelForm}
 use Rattle.fields.specs.Classes.{classOf, starClass}
-use Rattle.fields.specs.Templates.{plain, afterStar}
+use Rattle.fields.specs.Templates.{afterStar}
 use Rattle.fields.proofs.Lists.{bytes-end, bytes-next, bytes-start}
-use Rattle.fields.proofs.Classes.{yes-or-no, star-class}
+use Rattle.fields.proofs.Classes.{by-class, plain, star-class}
 use Rattle.fields.proofs.Runs.{leading-more, leading-stop}
 
 -- ---- the sorts of characters: a plain one, a star, one that stands in no label template
 
-data Sort (b : ℕ) : Type 0 where
-  one : inLabel b ≡ true → plain b ≡ true → star b ≡ false → space b ≡ false → Sort b
-  mark : inLabel b ≡ true → plain b ≡ false → star b ≡ true → space b ≡ false → Sort b
-  none : inLabel b ≡ false → plain b ≡ false → star b ≡ false → Sort b
+-- by whether it stands in one, is plain, is a star, is a space
+data Sort (w q t v : Bool) : Type 0 where
+  is-plain : w ≡ true → q ≡ true → t ≡ false → v ≡ false → Sort w q t v
+  is-star : w ≡ true → q ≡ false → t ≡ true → v ≡ false → Sort w q t v
+  neither : w ≡ false → q ≡ false → t ≡ false → Sort w q t v
 
--- a space is not plain
-not-space : (b : ℕ) → plain b ≡ true → space b ≡ false
-not-space b p =
-    ⊎-elim (λ w. let n : b ≡ 0x20 = eqb-true b 0x20 w in absurd (true≢false (sym p ∙ ap plain n))) (λ w. w)
-    (yes-or-no (space b))
-
-sort : (b : ℕ) → Sort b
-sort b =
-    ⊎-elim (λ s. let n : b ≡ 0x2A = eqb-true b 0x2A s in rw n (mark refl refl refl refl))
-    (λ s.
-    ⊎-elim (λ p. one (ap (λ (t : Bool). t || star b) p) p s (not-space b p))
-    (λ p. none (ap (λ (t : Bool). t || star b) p ∙ s) p s)
-    (yes-or-no (plain b)))
-    (yes-or-no (star b))
+sort : (b : ℕ) → Sort (inLabel b) (plain b) (star b) (space b)
+sort =
+    by-class (λ c l d r g t p. Sort (l || d || g || t) (l || d || g) t p) (is-plain refl refl refl refl)
+    (is-plain refl refl refl refl) (neither refl refl refl) (is-plain refl refl refl refl)
+    (is-star refl refl refl refl) (neither refl refl refl) (neither refl refl refl)
 
 -- ---- the characters in front of a list
 
@@ -72,11 +63,11 @@ no-star : (bs : List ℕ) → (spacesAfter bs && eqb (stars bs) 0) ≡ every spa
 no-star [] = refl
 no-star (x ∷ xs) =
     elim (sort x) [
-      | one e p s w ↦
+      | is-plain e p s w ↦
           rw (stars-same x xs e s, leading-more inLabel x xs e, leading-more plain x xs p) (no-star xs)
-      | mark e p s w ↦
+      | is-star e p s w ↦
           rw (stars-more x xs e s, leading-stop plain x xs p, eqb·suc-zero (stars xs), w) (simp and-false)
-      | none e p s ↦ rw (leading-stop inLabel x xs e, leading-stop plain x xs p) (simp and-true)
+      | neither e p s ↦ rw (leading-stop inLabel x xs e, leading-stop plain x xs p) (simp and-true)
     ]
 
 -- no star, yet the last is one: it is b, and only spaces follow
@@ -85,9 +76,9 @@ star-before : (b : ℕ) (bs : List ℕ)
 star-before b [] = sym (and-true (star b))
 star-before b (x ∷ xs) =
     elim (sort x) [
-      | one e p s w ↦ rw (stars-same x xs e s, leading-more inLabel x xs e, star-before x xs, s, w) (simp and-false)
-      | mark e p s w ↦ rw (stars-more x xs e s, eqb·suc-zero (stars xs), w) (simp and-false)
-      | none e p s ↦ rw (leading-stop inLabel x xs e, and-true) (and-comm (every space (x ∷ xs)) (star b))
+      | is-plain e p s w ↦ rw (stars-same x xs e s, leading-more inLabel x xs e, star-before x xs, s, w) (simp and-false)
+      | is-star e p s w ↦ rw (stars-more x xs e s, eqb·suc-zero (stars xs), w) (simp and-false)
+      | neither e p s ↦ rw (leading-stop inLabel x xs e, and-true) (and-comm (every space (x ∷ xs)) (star b))
     ]
 
 leb-one : (n : ℕ) → leb (suc n) 1 ≡ eqb n 0
@@ -100,12 +91,12 @@ one-star : (b : ℕ) (bs : List ℕ) → (spacesAfter bs && leb (stars bs) 1 && 
 one-star b [] = refl
 one-star b (x ∷ xs) =
     elim (sort x) [
-      | one e p s w ↦
+      | is-plain e p s w ↦
           rw (stars-same x xs e s, leading-more inLabel x xs e, leading-more plain x xs p) (one-star x xs)
-      | mark e p s w ↦
+      | is-star e p s w ↦
           rw (stars-more x xs e s, leading-more inLabel x xs e, leading-stop plain x xs p, eqb·suc-zero (stars xs))
           (rw (leb-one (stars xs), star-before x xs, s, afterStar))
-      | none e p s ↦
+      | neither e p s ↦
           rw (leading-stop inLabel x xs e, leading-stop plain x xs p, s, afterStar) (simp and-true)
     ]
 
@@ -122,13 +113,13 @@ pub label-split : (b : ℕ) (bs : List ℕ) → labelForm (b ∷ bs)
 unfolding labelForm
 label-split b bs =
     elim (sort b) [
-      | one e p s w ↦
+      | is-plain e p s w ↦
           rw (stars-same b bs e s, leading-more inLabel b bs e, e, s, leb·suc-suc, leb·zero, suc-sub-suc, sub-zero)
           (rw (or-false, first-out (not (digit b)), one-star b bs))
-      | mark e p s w ↦
+      | is-star e p s w ↦
           rw (stars-more b bs e s, leading-more inLabel b bs e, e, s, leb-one (stars bs), leb·suc-suc, leb·zero)
           (rw (eqb·suc-zero (stars bs), first-out (not (digit b)), and-true, no-star bs))
-      | none e p s ↦ rw (leading-stop inLabel b bs e, e)
+      | neither e p s ↦ rw (leading-stop inLabel b bs e, e)
     ]
 
 -- ---- at the places of a field

@@ -1,4 +1,4 @@
--- Internal: the classes of characters, each named by its sign on the page (src/page.rt).
+-- Internal: the classes of characters, each numbered by its mark on the page (src/page.rt).
 use mathlib.Core.Bool.{Bool, true, false}
 use Prim.Native.Nat.{ℕ}
 use Rattle.format.specs.Forms.{between, letter, digit, ruleSign, labelSign, star, space}
@@ -36,6 +36,7 @@ unfoldable pub pick : Bool → ℕ → ℕ → ℕ
 pick true k later = k
 pick false k later = later
 
+-- the class of a character
 unfoldable pub classOf : ℕ → ℕ
 classOf b =
     pick (letter b) letterClass

@@ -1,14 +1,10 @@
--- Internal: the parts of a label template, in the order in which the code passes them.
-use mathlib.Core.Bool.{Bool, true, false, _||_}
+-- Internal: a label template after the characters that stand anywhere in it.
+use mathlib.Core.Bool.{Bool, true, false}
 use mathlib.Core.List.{List, [], _∷_}
 use Prim.Native.Nat.{ℕ}
-use Rattle.format.specs.Forms.{letter, digit, labelSign, star}
+use Rattle.format.specs.Forms.{star}
 
--- may stand anywhere in a label template but, a digit, in front
-abbrev pub plain : ℕ → Bool
-plain b = letter b || digit b || labelSign b
-
--- what is left after a star in front of it, where one may stand there (no star has come)
+-- the bytes without a star in front of them; with true, where the template's first character is a star, nothing is taken away
 abbrev pub afterStar : Bool → List ℕ → List ℕ
 afterStar true xs = xs
 afterStar false [] = []

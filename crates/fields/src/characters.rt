@@ -15,7 +15,8 @@ use crate::page::LABEL_SIGN;
 use crate::page::LETTER;
 use crate::page::STAR;
 
-// The class of a character: its sign on the page. What may stand in a Rule ID or a label template is told by it alone.
+// The class of a character: its mark on the page. Every test of a character is made by it, but for the spaces after a label
+// template (`only_spaces`).
 pub fn character(page: &[u8; 256], b: u8) -> u8
     requires { ⌜ Page (now page) ⌝ }
     ensures { λ r. ⌜ r ≡ classOf b ⌝ }
@@ -40,7 +41,7 @@ fn run_end(s: &[u8], page: &[u8; 256], i: usize, e: usize, lo: u8, hi: u8) -> us
 }
 
 // The eight bytes at i are a Rule ID: characters of one, at least one, then spaces to the end. By the first hexadecimal digits
-// of their signs: a 6, and after it none that is less than the one before. All are looked at, with no way out of the loop, since
+// of their marks: a 6, and after it none that is less than the one before. All are looked at, with no way out of the loop, since
 // the length of the next ID cannot be foreseen.
 pub fn rule_id_form(s: &[u8], page: &[u8; 256], i: usize) -> bool
     requires { ⌜ (i + 8 ≤ length (now s)) × Page (now page) ⌝ }
@@ -92,7 +93,8 @@ fn may_be_first(c: u8) -> bool
     }
 }
 
-// The place after a star at p, before e, where one may stand there: the first character, of this class, is none.
+// The place after a star at p, before e; p where none stands there, or none may, since the first character, of this class, is
+// one.
 fn after_star(s: &[u8], page: &[u8; 256], first: u8, p: usize, e: usize) -> usize
     requires { ⌜ (p ≤ e) × (e ≤ length (now s)) × Page (now page) ⌝ }
     ensures { λ r. ⌜ (bytesAt (now (s .entry)) r (e - r) ≡ afterStar (eqb first starClass) (bytesAt (now (s .entry)) p (e - p))) × (r ≤ e) ⌝ }

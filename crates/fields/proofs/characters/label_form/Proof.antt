@@ -1,7 +1,5 @@
 -- A label template, from its first character, the run after it, the star and the spaces. Assumes nothing.
 use mathlib.Core.Path.{sym, ap, _∙_}
-use mathlib.Core.Bool.{Bool, _&&_}
-use mathlib.Core.List.{List}
 use native.Mathlib.Omega.{arith}
 use lib.Dec.{eqb}
 use lib.ListN.{getD}
@@ -9,8 +7,8 @@ use Prim.Native.Nat.{_+_}
 use Rattle.format.specs.Bytes.{every}
 use Rattle.format.specs.Forms.{space}
 use Rattle.fields.specs.Classes.{labelClass, digitClass, starClass}
-use Rattle.fields.specs.Templates.{plain, afterStar}
-use Rattle.fields.proofs.Classes.{plain-class}
+use Rattle.fields.specs.Templates.{afterStar}
+use Rattle.fields.proofs.Classes.{plain, plain-class}
 use Rattle.fields.proofs.Runs.{run-left}
 use Rattle.fields.proofs.Templates.{label-told}
 use borrow.Author.Tests.{not-true, not-false}

@@ -2,6 +2,7 @@
 use borrow.Author.Tests.{ne-eqb}
 use mathlib.Core.Logic.{inl, inr, ⊎-elim}
 use mathlib.Core.Path.{sym, _∙_}
+use Rattle.fields.specs.Classes.{letterClass, labelClass, starClass}
 use Rattle.fields.proofs.Classes.{first-class}
 use Rattle.fields.proofs.characters.may_be_first.Statement.{statement}
 use Rattle.fields.proofs.characters.may_be_first.Tie as tie
@@ -16,7 +17,7 @@ returns-2 c b e =
     let n = c .before .args .c in
     let out = c .match .rest .1 in
     sym (first-class b n e
-    ∙ rw (ne-eqb n 0x2A (λ k. out (inl k)), ne-eqb n 0x40 (λ k. out (inr (inl k))), ne-eqb n 0x61 (λ k. out (inr (inr k)))))
+    ∙ rw (ne-eqb n starClass (λ k. out (inl k)), ne-eqb n labelClass (λ k. out (inr (inl k))), ne-eqb n letterClass (λ k. out (inr (inr k)))))
 
 pub may-be-first-spec : {M : Type 1} → statement M
 may-be-first-spec = tie.close (tie.spec returns returns-2)

@@ -6,7 +6,7 @@ use lib.ListN.{getD}
 use mathlib.Core.List.{List}
 use Prim.Native.Nat.{ℕ, _-_, _≤_}
 use mathlib.Core.Logic.{⊎-elim}
-use mathlib.Core.Bool.{true, false, _&&_, and-true}
+use mathlib.Core.Bool.{_&&_, and-true}
 use mathlib.Core.Path.{_≡_, refl, sym, ap, _∙_}
 use Rattle.format.specs.Bytes.{every, bytesAt}
 use Rattle.format.specs.Forms.{space}
