@@ -69,11 +69,11 @@ pub fn shuffled_rules() -> Vec<Vec<u8>> {
 
 fn numbered_rule(number: usize) -> Vec<u8> {
     let text = format!("{:<8}", format!("R{number}"));
-    let rule_id: [u8; 8] = text.into_bytes().try_into().expect("eight signs");
+    let rule_id: [u8; 8] = text.into_bytes().try_into().expect("eight characters");
     rule(&rule_id, &[])
 }
 
-/// 171 bare rules whose Rule IDs have one to eight random signs each.
+/// 171 bare rules whose Rule IDs have one to eight random characters each.
 fn random_rules() -> Vec<Vec<u8>> {
     let mut random = Random::new(0x7261_6E64);
     let mut ids: Vec<Vec<u8>> = Vec::new();
@@ -83,7 +83,7 @@ fn random_rules() -> Vec<Vec<u8>> {
             ids.push(id);
         }
     }
-    let bare = |id: Vec<u8>| rule(&id.try_into().expect("eight signs"), &[]);
+    let bare = |id: Vec<u8>| rule(&id.try_into().expect("eight characters"), &[]);
     ids.into_iter().map(bare).collect()
 }
 
@@ -94,7 +94,7 @@ fn labelled_rules() -> Vec<Vec<u8>> {
         let label = values::label_template(&mut random);
         let parameters = subsection(5, &[&[0, 0, 0, 0, 64], &label]);
         let id = format!("LABEL{number}  ").into_bytes();
-        rule(&id.try_into().expect("eight signs"), &[parameters])
+        rule(&id.try_into().expect("eight characters"), &[parameters])
     };
     (0..5).map(labelled).collect()
 }

@@ -117,8 +117,8 @@ fn every_value_in_a_full_label_template() {
     assert_eq!(counts[63], 52 + 10 + 3 + 1 + 1);
 }
 
-/// At every place of templates of one to 64 characters, without a star, with
-/// one first, with one last, and with both.
+/// At every place of templates of thirteen lengths from one to 64, without a
+/// star, with one first, with one last, and with both.
 #[test]
 fn every_value_in_label_templates_of_many_lengths() {
     for characters in [1, 2, 3, 4, 5, 8, 16, 31, 32, 33, 62, 63, 64] {

@@ -93,8 +93,8 @@ fn may_be_first(c: u8) -> bool
     }
 }
 
-// The place after a star at p, before e; p where none stands there, or none may, since the first character, of this class, is
-// one.
+// The place after the star at p. It is p itself where no star stands there before e, or where the template's first character,
+// of the class first, is a star already.
 fn after_star(s: &[u8], page: &[u8; 256], first: u8, p: usize, e: usize) -> usize
     requires { ⌜ (p ≤ e) × (e ≤ length (now s)) × Page (now page) ⌝ }
     ensures { λ r. ⌜ (bytesAt (now (s .entry)) r (e - r) ≡ afterStar (eqb first starClass) (bytesAt (now (s .entry)) p (e - p))) × (r ≤ e) ⌝ }

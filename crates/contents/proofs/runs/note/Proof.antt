@@ -9,7 +9,6 @@ use Rattle.contents.proofs.Notes.{rule-here, rule-noted, other-noted}
 use Rattle.contents.proofs.runs.note.Statement.{statement}
 use Rattle.contents.proofs.runs.note.Tie as tie
 
--- src/runs.rt:30:8
 shared-slice-read-if1 : tie.Need-shared-slice-read-if1
 shared-slice-read-if1 c =
     let f = c .before .before .pre .stands .four in
@@ -17,7 +16,6 @@ shared-slice-read-if1 c =
     let m = c .before .before .pre .short in
     omega arith
 
--- src/runs.rt:31:39
 add-eight : tie.Need-add-eight
 add-eight c =
     let f = c .before .before .before .before .pre .stands .four in
@@ -25,7 +23,6 @@ add-eight c =
     let m = c .before .before .before .before .pre .short in
     omega arith
 
--- src/runs.rt:31:30
 eight-requires : tie.Need-eight-requires
 eight-requires c κs =
     let f = c .before .before .before .before .pre .stands .four in
@@ -35,7 +32,6 @@ eight-requires c κs =
     let l = r .long in
     omega arith
 
--- src/runs.rt:31:13
 put-requires : tie.Need-put-requires
 put-requires c κs =
     let f = c .before .before .before .before .before .pre .stands .four in
@@ -47,7 +43,6 @@ put-requires c κs =
     let o = r .some in
     (omega arith, held-room (c .before .before .before .before .before .pre .held) (omega arith))
 
--- src/runs.rt:26:1
 returns : tie.Need-returns
 returns c =
     λ before k w held.
@@ -57,7 +52,6 @@ returns c =
     rule-noted (c .before .before .before .before .before .before .args .s .now) (c .before .before .before .before .before .before .args .q) k w i (omega arith) (c .before .before .before .if1 .taken)
     (λ j. (c .before .before .before .before .before .shared-slice-known .given j) .fits) held (c .put .ensures) (c .before .eight .ensures)
 
--- src/runs.rt:26:1
 returns-2 : tie.Need-returns-2
 returns-2 c =
     λ before k w held.

@@ -18,11 +18,9 @@ Inv-loop s ids₀ p q₀ ids q = (before : List Section) → Ahead s 8 before p 
 abbrev μ-loop : tie.MeasureT-loop
 μ-loop s ids₀ p q₀ ids q = p - q
 
--- src/runs.rt:41:5
 loop-holds : tie.Need-loop-holds Inv-loop μ-loop
 loop-holds c = λ before a. record { done = []; rest = before; whole = refl; ahead = a; held = c .before .pre .2 }
 
--- src/runs.rt:42:9
 note-requires : tie.Need-note-requires Inv-loop μ-loop
 note-requires c κs =
     let b = c .before .before .before .before .pre .3 in
@@ -33,7 +31,6 @@ note-requires c κs =
     let e = c .before .before .before .before .pre .1 in
     record { before = w .done; section = w .section; stands = w .stands; inside = omega arith; short = m; held = w .held }
 
--- src/runs.rt:43:21
 add-two : tie.Need-add-two Inv-loop μ-loop
 add-two c =
     let b = c .before .before .before .before .before .pre .3 in
@@ -44,7 +41,6 @@ add-two c =
     let e = c .before .before .before .before .before .pre .1 in
     omega arith
 
--- src/runs.rt:43:14
 two-requires : tie.Need-two-requires Inv-loop μ-loop
 two-requires c κs =
     let b = c .before .before .before .before .before .pre .3 in
@@ -55,7 +51,6 @@ two-requires c κs =
     let e = c .before .before .before .before .before .pre .1 in
     omega arith
 
--- src/runs.rt:43:9
 add-q : tie.Need-add-q Inv-loop μ-loop
 add-q c =
     let b = c .before .before .before .before .before .before .pre .3 in
@@ -67,7 +62,6 @@ add-q c =
     let l : c .two .result ≡ stated (drop (c .before .before .before .before .loop .q) (c .before .before .before .before .before .before .args .s .now)) = number-at (c .before .before .before .before .before .before .args .s .now) (c .before .before .before .before .loop .q) 2 2 (c .two .ensures .0) in
     omega arith
 
--- src/runs.rt:41:5
 loop-less : tie.Need-loop-less Inv-loop μ-loop
 loop-less c =
     let b = c .before .before .before .before .before .before .pre .3 in
@@ -79,14 +73,12 @@ loop-less c =
     let l : c .two .result ≡ stated (drop (c .before .before .before .before .loop .q) (c .before .before .before .before .before .before .args .s .now)) = number-at (c .before .before .before .before .before .before .args .s .now) (c .before .before .before .before .loop .q) 2 2 (c .two .ensures .0) in
     omega arith
 
--- src/runs.rt:41:5
 loop-again : tie.Need-loop-again Inv-loop μ-loop
 loop-again c =
     λ before a.
     let l : c .two .result ≡ stated (drop (c .before .before .before .before .loop .q) (c .before .before .before .before .before .before .args .s .now)) = number-at (c .before .before .before .before .before .before .args .s .now) (c .before .before .before .before .loop .q) 2 2 (c .two .ensures .0) in
     noted-more (noted-next (c .before .before .before .before .loop .inv before a) (c .before .before .before .loop-test .taken)) (c .before .note .ensures) l
 
--- src/runs.rt:36:1
 returns : tie.Need-returns Inv-loop μ-loop
 returns c = λ before a. noted-all (c .before .loop .inv before a) (c .loop-test .left)
 
