@@ -5,8 +5,20 @@
  * examples/show_token.c reads with these calls, examples/build_token.c writes.
  *
  * ANSWERS. Each call returns a number: 0 for accepted, else the number of the refusal (the list below).
- * `second` always gets a second number: of a refusal the place, which is the offset of the section or
- * subsection at fault, 0 for the header; where it is something else, it is said at the call.
+ * `second` always gets a second number, of a refusal the place; where it is something else, it is said at the
+ * call.
+ *
+ * PLACES. The place of a refusal is an offset in the token, or in the draft:
+ *  - 1: 0. 2 to 5: the header's field, that is 0, 1, 2 and 4.
+ *  - 6, 12 and 15: the length field of the section or subsection at fault, two bytes into it; its start where
+ *    under 4 bytes are left for it.
+ *  - 7, 9, 13, 14 and 20: its start; where section 14 is missing the token's length.
+ *  - 8, 10, 11, 16, 18, 19 and 21: the first byte of the field tested, whichever byte of it is wrong. Of two
+ *    fields held against each other it is the later one, but the exponent against the modulus is told at the
+ *    exponent, and a 12/0005 against a 12/0003 at the mask length.
+ *  - 17: the first byte at which no Rule ID, or no label template, can go on: in "A B" and in "A*B" the B, in a
+ *    label template "1A" the 1.
+ *  - 22 to 25: it is said in the list and at the calls.
  *
  * MEMORY. The caller owns everything; a call keeps nothing, allocates nothing, and has no state, so calls
  * may run in several threads at once on memory of their own.

@@ -71,8 +71,10 @@ def of_line(case, bases):
 
 
 def of_form(case, bases):
-    form = {"date": "dateExists", "ruleid": "ruleIdForm", "label": "labelForm"}[case.sort]
-    return [(f"{form} ({terms.numbers(bytes_of(case.words[0]))})", terms.truth(case.says[0]))]
+    """Whether the field has its form, and of characters where the form ends."""
+    names = {"date": ["dateExists"], "ruleid": ["ruleIdForm", "ruleIdReach"], "label": ["labelForm", "labelReach"]}[case.sort]
+    says = [terms.truth(case.says[0])] + case.says[1:]
+    return [(f"{name} ({terms.numbers(bytes_of(case.words[0]))})", said) for name, said in zip(names, says)]
 
 
 def of_given(case, bases):

@@ -119,14 +119,15 @@ static void walk_over_the_smallest(void)
     static const uint32_t first[6] = {0, TB_KIND_INFORMATION, 8, 72, 0, 18};
     static const uint32_t last[6] = {0, TB_KIND_PROTECTION, 18, 62, 0, 80};
     static const uint32_t none[6] = {0, 0, 0, 0, 0, 0};
+    static const uint32_t cut[6] = {2, 0, 0, 0, 0, 0};
     uint32_t place;
 
     for (place = 0; place < 90; place++) {
         step_is(tb_step, 80, place, place == 8 || place == 18 || place == 80 ? TB_ACCEPTED : TB_NO_SUCH,
                 place == 8 ? first : place == 18 ? last : none);
-        step_is(tb_step, 79, place, TB_TOKEN_LENGTH, none);
+        step_is(tb_step, 79, place, TB_TOKEN_LENGTH, cut);
         step_is(tb_row, 80, place, place < 2 ? TB_ACCEPTED : TB_NO_SUCH, place == 0 ? first : place == 1 ? last : none);
-        step_is(tb_row, 79, place, TB_TOKEN_LENGTH, none);
+        step_is(tb_row, 79, place, TB_TOKEN_LENGTH, cut);
     }
     step_is(tb_step, 80, UINT32_MAX, TB_NO_SUCH, none);
     step_is(tb_row, 80, UINT32_MAX, TB_NO_SUCH, none);
@@ -167,8 +168,43 @@ static void every_beginning(const uint8_t *bytes, size_t size)
         struct lent token = lend_to_read(bytes, length, PAGE_BEHIND);
 
         CHECK(read_only(token.bytes, length, &second) == (length < 8 ? TB_NO_HEADER : TB_TOKEN_LENGTH));
-        CHECK(second == 0);
+        CHECK(second == (length < 8 ? 0 : 2));
         take_back(&token);
+    }
+}
+
+/* One byte of the smallest token changed: where the refusal points. */
+static void places_in_the_smallest(void)
+{
+    static const struct {
+        uint8_t at, value;
+        uint32_t number, place;
+    } faults[] = {
+        {0, 0, TB_HEADER_ID, 0},
+        {1, 1, TB_HEADER_VERSION, 1},
+        {3, 0x51, TB_TOKEN_LENGTH, 2},
+        {7, 1, TB_HEADER_RESERVED, 4},
+        {8, 0x16, TB_SECTION_ID, 8},
+        {9, 1, TB_VERSION, 9},
+        {11, 9, TB_SECTION_LENGTH, 10},
+        {11, 13, TB_SUBSECTION_LENGTH, 18},
+        {13, 1, TB_RESERVED, 12},
+        {17, 2, TB_VALUE, 14},
+        {19, 3, TB_TAG, 18},
+        {21, 0x3D, TB_SUBSECTION_LENGTH, 20},
+        {22, 1, TB_VERSION, 22},
+        {23, 1, TB_RESERVED, 23},
+        {79, 1, TB_MKVP, 64},
+    };
+    uint8_t changed[80];
+    uint32_t second;
+    size_t i;
+
+    for (i = 0; i < sizeof faults / sizeof *faults; i++) {
+        memcpy(changed, smallest, 80);
+        changed[faults[i].at] = faults[i].value;
+        CHECK(read_only(changed, 80, &second) == faults[i].number);
+        CHECK(second == faults[i].place);
     }
 }
 
@@ -213,12 +249,13 @@ int main(int argc, char **argv)
     int i;
 
     CHECK(read_only(smallest, 80, &second) == TB_ACCEPTED && second == 2);
-    CHECK(read_only(smallest, 79, &second) == TB_TOKEN_LENGTH && second == 0);
+    CHECK(read_only(smallest, 79, &second) == TB_TOKEN_LENGTH && second == 2);
     nothing_at_a_null_pointer();
     tables_of_every_size();
     fields_of_the_smallest();
     walk_over_the_smallest();
     every_beginning(smallest, 80);
+    places_in_the_smallest();
     every_byte_changed();
     for (i = 1; i < argc; i++) {
         read_file(argv[i]);

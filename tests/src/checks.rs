@@ -1,20 +1,66 @@
 //! The tests inside one section or subsection, in order: the inner lengths,
-//! then the fields by rising offset. A fault is given as its number.
+//! then the fields by rising offset. A fault has its place by request 107: the
+//! first byte of the field tested, or the part's `length`, or the byte at which
+//! no form can go on.
 
 use crate::forms;
 use crate::kinds::{
-    APPLICATION_DATA, DATES, EXPORT_PARAMETERS, INFORMATION, NAME, PROTECTION, PUBLIC_KEY, RULE,
-    SOURCE_RULE, TOKEN_PARAMETERS, TRANSPORT_RULE, TRANSPORT_VARIANT,
+    APPLICATION_DATA, DATES, EXPORT_PARAMETERS, INFORMATION, LENGTH, NAME, PROTECTION, PUBLIC_KEY,
+    RULE, SOURCE_RULE, TOKEN_PARAMETERS, TRANSPORT_RULE, TRANSPORT_VARIANT,
 };
 use crate::reader::number;
 
-type Check = Result<(), u32>;
+/// A fault's number, and where it is, from the part's start.
+pub struct Fault {
+    pub number: u32,
+    pub offset: usize,
+}
 
-fn ensure(condition: bool, number: u32) -> Check {
+type Check = Result<(), Fault>;
+
+fn ensure(condition: bool, number: u32, offset: usize) -> Check {
     if condition {
         Ok(())
     } else {
-        Err(number)
+        Err(Fault { number, offset })
+    }
+}
+
+/// A field: where it begins in its part, and its bytes.
+struct Field<'a> {
+    offset: usize,
+    bytes: &'a [u8],
+}
+
+/// The field of this many bytes at an offset of the part.
+fn field(part: &[u8], offset: usize, length: usize) -> Field<'_> {
+    Field {
+        offset,
+        bytes: &part[offset..offset + length],
+    }
+}
+
+impl Field<'_> {
+    fn number(&self) -> usize {
+        number(self.bytes)
+    }
+
+    /// Fails at the field's first byte.
+    fn ensure(&self, condition: bool, number: u32) -> Check {
+        ensure(condition, number, self.offset)
+    }
+
+    /// A reserved field.
+    fn ensure_zero(&self) -> Check {
+        self.ensure(all_zero(self.bytes), 10)
+    }
+
+    /// Fails at the first byte at which no legal form can go on.
+    fn ensure_form(&self, is_form: fn(&[u8]) -> bool) -> Check {
+        match forms::first_wrong(self.bytes, is_form) {
+            None => Ok(()),
+            Some(index) => ensure(false, 17, self.offset + index),
+        }
     }
 }
 
@@ -23,122 +69,135 @@ pub fn all_zero(bytes: &[u8]) -> bool {
 }
 
 /// The lengths of keys: 8, 16 or 24.
-fn is_key_length(length: u8) -> bool {
+fn is_key_length(length: usize) -> bool {
     [8, 16, 24].contains(&length)
 }
 
 /// The inner length and the fixed fields of a section whose length is at
 /// least its least one.
-pub fn section(kind: u32, bytes: &[u8]) -> Check {
+pub fn section(kind: u32, part: &[u8]) -> Check {
     match kind {
-        PUBLIC_KEY => public_key(bytes),
-        RULE => rule(bytes),
-        NAME => ensure(bytes.len() == 68, 15),
+        PUBLIC_KEY => public_key(part),
+        RULE => rule(part),
+        NAME => ensure(part.len() == 68, 15, LENGTH),
         INFORMATION => {
-            ensure(all_zero(&bytes[4..6]), 10)?;
-            ensure(matches!(bytes[6..10], [0, 0, 0, 0 | 1]), 11)
+            let (reserved, flags) = (field(part, 4, 2), field(part, 6, 4));
+            reserved.ensure_zero()?;
+            flags.ensure(matches!(flags.bytes, [0, 0, 0, 0 | 1]), 11)
         }
-        APPLICATION_DATA => ensure(bytes.len() == 6 + number(&bytes[4..6]), 15),
+        APPLICATION_DATA => {
+            let count = field(part, 4, 2);
+            ensure(part.len() == 6 + count.number(), 15, LENGTH)
+        }
         _ => unreachable!("the reader asks for listed sections only"),
     }
 }
 
 /// The version, the inner length and the fields of a subsection whose length
 /// is at least its least one.
-pub fn subsection(kind: u32, bytes: &[u8], external: bool) -> Check {
-    ensure(bytes[4] == 0, 8)?;
+pub fn subsection(kind: u32, part: &[u8], external: bool) -> Check {
+    let version = field(part, 4, 1);
+    version.ensure(version.number() == 0, 8)?;
     match kind {
         TRANSPORT_VARIANT => {
-            ensure(bytes.len() == 8 + number(&bytes[7..8]), 12)?;
-            ensure(all_zero(&bytes[5..7]), 10)
+            let count = field(part, 7, 1);
+            ensure(part.len() == 8 + count.number(), 12, LENGTH)?;
+            field(part, 5, 2).ensure_zero()
         }
         TRANSPORT_RULE | SOURCE_RULE => {
-            ensure(bytes.len() == 14, 12)?;
-            ensure(bytes[5] == 0, 10)?;
-            ensure(forms::is_rule_id(&bytes[6..14]), 17)
+            ensure(part.len() == 14, 12, LENGTH)?;
+            field(part, 5, 1).ensure_zero()?;
+            field(part, 6, 8).ensure_form(forms::is_rule_id)
         }
-        EXPORT_PARAMETERS => export_parameters(bytes),
-        TOKEN_PARAMETERS => token_parameters(bytes),
+        EXPORT_PARAMETERS => export_parameters(part),
+        TOKEN_PARAMETERS => token_parameters(part),
         PROTECTION => {
-            ensure(bytes.len() == 62, 12)?;
-            ensure(bytes[5] == 0, 10)?;
-            ensure(!external || all_zero(&bytes[46..62]), 21)
+            ensure(part.len() == 62, 12, LENGTH)?;
+            field(part, 5, 1).ensure_zero()?;
+            let mkvp = field(part, 46, 16);
+            mkvp.ensure(!external || all_zero(mkvp.bytes), 21)
         }
-        DATES => dates(bytes),
+        DATES => dates(part),
         _ => unreachable!("the reader asks for listed subsections only"),
     }
 }
 
-fn public_key(bytes: &[u8]) -> Check {
-    let exponent_length = number(&bytes[6..8]);
-    let modulus_bits = number(&bytes[8..10]);
-    let modulus_length = number(&bytes[10..12]);
-    ensure(bytes.len() == 16 + exponent_length + modulus_length, 15)?;
-    ensure(all_zero(&bytes[4..6]), 10)?;
-    let (exponent, rest) = bytes[12..].split_at(exponent_length);
-    let (modulus, flags) = rest.split_at(modulus_length);
-    ensure(forms::is_public_key(modulus_bits, exponent, modulus), 16)?;
-    ensure(matches!(flags, [0 | 0x80 | 0xC0, 0, 0, 0]), 11)
+fn public_key(part: &[u8]) -> Check {
+    let [x, bits, y] = [6, 8, 10].map(|offset| field(part, offset, 2));
+    ensure(part.len() == 16 + x.number() + y.number(), 15, LENGTH)?;
+    field(part, 4, 2).ensure_zero()?;
+    let exponent = field(part, 12, x.number());
+    let modulus = field(part, 12 + x.number(), y.number());
+    let flags = field(part, 12 + x.number() + y.number(), 4);
+    x.ensure((1..=512).contains(&x.number()), 16)?;
+    bits.ensure((512..=4096).contains(&bits.number()), 16)?;
+    y.ensure(y.number() == bits.number().div_ceil(8), 16)?;
+    let significant = forms::significant_bits(modulus.bytes);
+    modulus.ensure(significant == bits.number(), 16)?;
+    modulus.ensure(forms::is_odd(modulus.bytes), 16)?;
+    exponent.ensure(forms::is_odd(exponent.bytes), 16)?;
+    exponent.ensure(forms::is_less(exponent.bytes, modulus.bytes), 16)?;
+    flags.ensure(matches!(flags.bytes, [0 | 0x80 | 0xC0, 0, 0, 0]), 11)
 }
 
-fn rule(bytes: &[u8]) -> Check {
-    ensure(forms::is_rule_id(&bytes[4..12]), 17)?;
-    let export = match bytes[12..16] {
-        [0, 0, 0, 0] => false,
-        [0, 0, 0, 1] => true,
-        _ => return Err(11),
-    };
-    ensure(export || is_key_length(bytes[16]), 11)?;
-    ensure(bytes[17] <= 2, 11)?;
-    ensure(bytes[18] == u8::from(export), 11)?;
-    ensure(bytes[19] <= 2, 11)
+fn rule(part: &[u8]) -> Check {
+    field(part, 4, 8).ensure_form(forms::is_rule_id)?;
+    let flags = field(part, 12, 4);
+    let [generated, key_check, symmetric, asymmetric] =
+        [16, 17, 18, 19].map(|offset| field(part, offset, 1));
+    flags.ensure(matches!(flags.bytes, [0, 0, 0, 0 | 1]), 11)?;
+    let export = flags.bytes[3] == 1;
+    generated.ensure(export || is_key_length(generated.number()), 11)?;
+    key_check.ensure(key_check.number() <= 2, 11)?;
+    symmetric.ensure(symmetric.number() == usize::from(export), 11)?;
+    asymmetric.ensure(asymmetric.number() <= 2, 11)
 }
 
-fn export_parameters(bytes: &[u8]) -> Check {
-    let variant_length = number(&bytes[10..11]);
+fn export_parameters(part: &[u8]) -> Check {
+    let [flags, minimum, maximum, x] = [7, 8, 9, 10].map(|offset| field(part, offset, 1));
     // The byte that gives the CV's length may lie outside by what x says.
-    ensure(11 + variant_length < bytes.len(), 12)?;
-    let cv_length = number(&bytes[11 + variant_length..12 + variant_length]);
-    ensure(bytes.len() == 12 + variant_length + cv_length, 12)?;
-    ensure(all_zero(&bytes[5..7]), 10)?;
-    ensure(bytes[7] == 0, 11)?;
-    let (minimum, maximum) = (bytes[8], bytes[9]);
-    ensure(is_key_length(minimum), 18)?;
-    ensure(is_key_length(maximum), 18)?;
-    ensure(minimum <= maximum, 18)?;
-    let long_enough = variant_length >= 8 && variant_length >= usize::from(maximum);
-    ensure(variant_length == 0 || long_enough, 18)?;
-    ensure([0, 8, 16].contains(&cv_length), 18)
+    ensure(11 + x.number() < part.len(), 12, LENGTH)?;
+    let c = field(part, 11 + x.number(), 1);
+    ensure(part.len() == 12 + x.number() + c.number(), 12, LENGTH)?;
+    field(part, 5, 2).ensure_zero()?;
+    flags.ensure(flags.number() == 0, 11)?;
+    minimum.ensure(is_key_length(minimum.number()), 18)?;
+    maximum.ensure(is_key_length(maximum.number()), 18)?;
+    maximum.ensure(minimum.number() <= maximum.number(), 18)?;
+    x.ensure(x.number() == 0 || x.number() >= 8, 18)?;
+    x.ensure(x.number() == 0 || x.number() >= maximum.number(), 18)?;
+    c.ensure([0, 8, 16].contains(&c.number()), 18)
 }
 
-fn token_parameters(bytes: &[u8]) -> Check {
-    let mask_length = number(&bytes[8..9]);
+fn token_parameters(part: &[u8]) -> Check {
+    let [flags, m] = [7, 8].map(|offset| field(part, offset, 1));
+    let masks = 2 * m.number();
     // The byte that gives the label template's length may lie outside.
-    ensure(9 + 2 * mask_length < bytes.len(), 12)?;
-    let (_, after_masks) = bytes.split_at(9 + 2 * mask_length);
-    let label_length = number(&after_masks[..1]);
-    ensure(bytes.len() == 10 + 2 * mask_length + label_length, 12)?;
-    ensure(all_zero(&bytes[5..7]), 10)?;
-    ensure(bytes[7] == 0, 11)?;
-    ensure([0, 8, 16].contains(&mask_length), 18)?;
-    ensure([0, 64].contains(&label_length), 18)?;
-    ensure(
-        label_length == 0 || forms::is_label_template(&after_masks[1..]),
-        17,
-    )
-}
-
-fn dates(bytes: &[u8]) -> Check {
-    ensure(bytes.len() == 16, 12)?;
-    ensure(bytes[5] == 0, 10)?;
-    ensure(matches!(bytes[6..8], [0, 0 | 1]), 11)?;
-    // "The dates are judged only when the flags are 1" (02, #102).
-    if bytes[7] == 0 {
+    ensure(9 + masks < part.len(), 12, LENGTH)?;
+    let z = field(part, 9 + masks, 1);
+    ensure(part.len() == 10 + masks + z.number(), 12, LENGTH)?;
+    field(part, 5, 2).ensure_zero()?;
+    flags.ensure(flags.number() == 0, 11)?;
+    m.ensure([0, 8, 16].contains(&m.number()), 18)?;
+    z.ensure([0, 64].contains(&z.number()), 18)?;
+    if z.number() == 0 {
         return Ok(());
     }
-    let (activation, expiration) = (&bytes[8..12], &bytes[12..16]);
-    ensure(forms::date_exists(activation), 19)?;
-    ensure(forms::date_exists(expiration), 19)?;
+    field(part, 10 + masks, 64).ensure_form(forms::is_label_template)
+}
+
+fn dates(part: &[u8]) -> Check {
+    ensure(part.len() == 16, 12, LENGTH)?;
+    field(part, 5, 1).ensure_zero()?;
+    let flags = field(part, 6, 2);
+    flags.ensure(matches!(flags.bytes, [0, 0 | 1]), 11)?;
+    // "The dates are judged only when the flags are 1" (02, #102).
+    if flags.number() == 0 {
+        return Ok(());
+    }
+    let [activation, expiration] = [8, 12].map(|offset| field(part, offset, 4));
+    activation.ensure(forms::date_exists(activation.bytes), 19)?;
+    expiration.ensure(forms::date_exists(expiration.bytes), 19)?;
     // Year, month and day stand in this order, so bytes compare as dates do.
-    ensure(activation <= expiration, 19)
+    expiration.ensure(activation.bytes <= expiration.bytes, 19)
 }

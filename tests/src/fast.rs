@@ -1,5 +1,6 @@
 //! An optimised reader: one pass judges the token, one pass fills the table,
-//! nothing is allocated. Same answers as [`crate::reader`].
+//! nothing is allocated. Same answers as [`crate::reader`]. Where several tests
+//! are made at once, the place is worked out only after they have failed.
 
 mod rules;
 mod sections;
@@ -13,6 +14,9 @@ use sections::{information, public_key};
 
 /// The number of a fault and its place.
 type Judged<T> = Result<T, Answer>;
+
+/// Where `length` stands in a section and in a subsection.
+const LENGTH: usize = 2;
 
 /// A token is judged by all rules, a draft by all but 20. The functions that
 /// judge are compiled for each, so that the one costs the other nothing.
@@ -135,7 +139,7 @@ fn judge<const ALL: bool>(bytes: &[u8]) -> Judged<u32> {
         return refuse(2, 0);
     }
     if version != 0 {
-        return refuse(3, 0);
+        return refuse(3, 1);
     }
     let length = usize::from(high) << 8 | usize::from(low);
     let right = match ALL {
@@ -143,10 +147,10 @@ fn judge<const ALL: bool>(bytes: &[u8]) -> Judged<u32> {
         false => (8..=3500).contains(&length) && length <= bytes.len(),
     };
     if !right {
-        return refuse(4, 0);
+        return refuse(4, 2);
     }
     if reserved != [0; 4] {
-        return refuse(5, 0);
+        return refuse(5, 4);
     }
     let mut progress = Progress {
         met: 0,
@@ -201,11 +205,11 @@ fn frame(token: &[u8], place: usize) -> Judged<(u8, usize)> {
         return refuse(7, place);
     };
     if version != 0 {
-        return refuse(8, place);
+        return refuse(8, place + 1);
     }
     let length = usize::from(high) << 8 | usize::from(low);
     if length < usize::from(*least) || length > rest.len() {
-        return refuse(6, place);
+        return refuse(6, place + LENGTH);
     }
     Ok((id, length))
 }
@@ -225,9 +229,9 @@ fn other_section<const ALL: bool>(
     }
     match id {
         0x11 => public_key(section, place),
-        0x13 if section.len() != 68 => refuse(15, place),
+        0x13 if section.len() != 68 => refuse(15, place + LENGTH),
         0x14 => information::<ALL>(section, place, progress),
-        0x15 if section.len() != 6 + two(section, 4) => refuse(15, place),
+        0x15 if section.len() != 6 + two(section, 4) => refuse(15, place + LENGTH),
         _ => Ok(()),
     }
 }
@@ -250,7 +254,7 @@ fn subsection_frame(
     };
     let length = usize::from(high) << 8 | usize::from(low);
     if length < usize::from(*least) || length > rest.len() {
-        return refuse(12, place);
+        return refuse(12, place + LENGTH);
     }
     let bit = 1 << tag;
     if *met & bit != 0 {
@@ -258,7 +262,7 @@ fn subsection_frame(
     }
     *met |= bit;
     if rest[4] != 0 {
-        return refuse(8, place);
+        return refuse(8, place + 4);
     }
     Ok((tag, length))
 }

@@ -1,4 +1,4 @@
-//! Forms of single fields: Rule IDs, label templates, dates, public keys.
+//! Forms of single fields: Rule IDs, label templates, dates; large numbers.
 
 use crate::reader::number;
 
@@ -33,6 +33,22 @@ pub fn is_label_template(field: &[u8]) -> bool {
         _ => false,
     };
     !signs[0].is_ascii_digit() && stars_right
+}
+
+/// The first byte at which no legal form can go on: the least place such that
+/// no legal field of this length begins with the bytes up to it. None for a
+/// legal field. A beginning of a legal field is itself legal with spaces after
+/// it, so that only spaces need be tried; tests/tests/form_places.rs tries all.
+pub fn first_wrong(field: &[u8], is_form: fn(&[u8]) -> bool) -> Option<usize> {
+    let begins_a_form = |length: usize| {
+        let mut completed = field[..length].to_vec();
+        completed.resize(field.len(), b' ');
+        is_form(&completed)
+    };
+    if is_form(field) {
+        return None;
+    }
+    (0..field.len()).find(|index| !begins_a_form(index + 1))
 }
 
 /// Leap years of the Gregorian calendar, year 0 by the same rule.
@@ -76,7 +92,7 @@ pub fn significant_bits(number: &[u8]) -> usize {
     }
 }
 
-fn is_odd(number: &[u8]) -> bool {
+pub fn is_odd(number: &[u8]) -> bool {
     number.last().is_some_and(|byte| byte % 2 == 1)
 }
 
@@ -87,15 +103,4 @@ pub fn is_less(left: &[u8], right: &[u8]) -> bool {
         return left.len() < right.len();
     }
     left < right
-}
-
-/// The rules of section 11 on x, modulus bits, y, modulus and exponent.
-pub fn is_public_key(modulus_bits: usize, exponent: &[u8], modulus: &[u8]) -> bool {
-    (1..=512).contains(&exponent.len())
-        && (512..=4096).contains(&modulus_bits)
-        && modulus.len() == modulus_bits.div_ceil(8)
-        && significant_bits(modulus) == modulus_bits
-        && is_odd(modulus)
-        && is_odd(exponent)
-        && is_less(exponent, modulus)
 }

@@ -8,8 +8,10 @@ pub mod cut;
 pub mod damage;
 /// Single faults in what the fields hold, each with the answer it gives.
 pub mod faults;
-/// Single faults in the public key, the rules and the dates.
+/// Single faults in the public key, in the lengths of 0003 and 0005, in dates.
 pub mod field_faults;
+/// Single faults in the forms of Rule IDs and label templates.
+pub mod form_faults;
 /// Legal tokens.
 pub mod legal;
 /// Single faults in lengths and in which parts are there.

@@ -34,6 +34,8 @@ pub const INTERNAL: u8 = 0x1F;
 
 /// Bytes of the header.
 pub const HEADER: usize = 8;
+/// Where `length` stands in a section and in a subsection.
+pub const LENGTH: usize = 2;
 /// Most bytes of a token.
 pub const LONGEST: usize = 3500;
 

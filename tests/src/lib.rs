@@ -1,11 +1,11 @@
 //! A second, separate reader and writer of trusted blocks, written from
-//! document 01 alone, for comparison with the proved ones.
+//! documents 01 and 02 alone, for comparison with the proved ones.
 
 /// What each kind of section and subsection must hold.
 pub mod checks;
 /// An optimised reader with the same answers as [`reader`].
 pub mod fast;
-/// Forms of Rule IDs, label templates, dates and public keys.
+/// Forms of Rule IDs, label templates and dates; large numbers.
 pub mod forms;
 /// Any bytes as trials of the library, for the fuzzer.
 pub mod fuzzed;

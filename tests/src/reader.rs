@@ -1,10 +1,11 @@
 //! The reading of a token: each test in the order of document 01, the first
-//! one that fails gives the answer. Written to be clear and not to be quick.
+//! one that fails gives the answer, at the place of request 107. Written to be
+//! clear and not to be quick.
 
 use crate::checks;
 use crate::kinds::{
-    is_section, least_length, EXPORT_PARAMETERS, EXTERNAL, HEADER, INFORMATION, INTERNAL, LONGEST,
-    PROTECTION, RULE, TOKEN_PARAMETERS,
+    is_section, least_length, EXPORT_PARAMETERS, EXTERNAL, HEADER, INFORMATION, INTERNAL, LENGTH,
+    LONGEST, PROTECTION, RULE, TOKEN_PARAMETERS,
 };
 
 /// One row of the table: a section or a subsection.
@@ -34,6 +35,11 @@ impl Answer {
 
 fn refuse<T>(number: u32, place: usize) -> Result<T, Answer> {
     Err(Answer::new(number, place))
+}
+
+/// A fault of the part that begins at `place`.
+fn refusal(fault: checks::Fault, place: usize) -> Answer {
+    Answer::new(fault.number, place + fault.offset)
 }
 
 /// The big-endian number in one or two bytes.
@@ -86,8 +92,8 @@ pub fn read_table(token: &[u8], table: &mut [u32]) -> Answer {
     Answer::new(0, rows.len())
 }
 
-/// The header's tests 1, 2, 3, 4, 5 in order; tokens and drafts differ in
-/// which worth of the length field is right.
+/// The header's tests 1, 2, 3, 4, 5 in order, each at its field; tokens and
+/// drafts differ in which worth of the length field is right.
 fn check_header(bytes: &[u8], length_is_right: impl Fn(usize) -> bool) -> Result<(), Answer> {
     if bytes.len() < HEADER {
         return refuse(1, 0);
@@ -96,13 +102,13 @@ fn check_header(bytes: &[u8], length_is_right: impl Fn(usize) -> bool) -> Result
         return refuse(2, 0);
     }
     if bytes[1] != 0 {
-        return refuse(3, 0);
+        return refuse(3, 1);
     }
     if !length_is_right(number(&bytes[2..4])) {
-        return refuse(4, 0);
+        return refuse(4, 2);
     }
     if !checks::all_zero(&bytes[4..8]) {
-        return refuse(5, 0);
+        return refuse(5, 4);
     }
     Ok(())
 }
@@ -134,9 +140,7 @@ fn read_section(
         return refuse(9, place);
     }
     let section = &token[place..place + length];
-    if let Err(number) = checks::section(kind, section) {
-        return refuse(number, place);
-    }
+    checks::section(kind, section).map_err(|fault| refusal(fault, place))?;
     if kind == RULE && rule_id_stands_before(token, rows, &section[4..12]) {
         return refuse(9, place);
     }
@@ -163,11 +167,11 @@ fn section_frame(rest: &[u8], place: usize) -> Result<(u32, usize, usize), Answe
         return refuse(7, place);
     };
     if rest[1] != 0 {
-        return refuse(8, place);
+        return refuse(8, place + 1);
     }
     let length = number(&rest[2..4]);
     if length < fixed || length > rest.len() {
-        return refuse(6, place);
+        return refuse(6, place + LENGTH);
     }
     Ok((kind, fixed, length))
 }
@@ -201,30 +205,29 @@ fn read_subsections(
         };
         let length = number(&rest[2..4]);
         if length < least || length > rest.len() {
-            return refuse(12, place);
+            return refuse(12, place + LENGTH);
         }
         if rows[owner..].iter().any(|row| row.kind == kind) {
             return refuse(14, place);
         }
-        if let Err(number) = checks::subsection(kind, &rest[..length], token[0] == EXTERNAL) {
-            return refuse(number, place);
-        }
+        checks::subsection(kind, &rest[..length], token[0] == EXTERNAL)
+            .map_err(|fault| refusal(fault, place))?;
         rows.push(row(kind, place, length, owner));
         place += length;
     }
     Ok(())
 }
 
-/// 18 at the 0005 whose mask is shorter than the minimum of the 0003 in the
-/// same section. `rows` are the section's own rows.
+/// 18 at the m of a 0005 whose mask is shorter than the minimum of the 0003 in
+/// the same section. `rows` are the section's own rows.
 fn check_mask_against_minimum(token: &[u8], rows: &[Row]) -> Result<(), Answer> {
     let export = rows.iter().find(|row| row.kind == EXPORT_PARAMETERS);
     let limits = rows.iter().find(|row| row.kind == TOKEN_PARAMETERS);
     if let (Some(export), Some(limits)) = (export, limits) {
         let minimum = bytes_of(token, export)[8];
-        let mask_length = bytes_of(token, limits)[8];
-        if mask_length != 0 && mask_length < minimum {
-            return refuse(18, limits.offset as usize);
+        let m = limits.offset as usize + 8;
+        if token[m] != 0 && token[m] < minimum {
+            return refuse(18, m);
         }
     }
     Ok(())

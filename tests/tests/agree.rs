@@ -252,9 +252,8 @@ fn every_beginning_of_a_token_is_refused() {
         let token = legal(&mut random).bytes;
         for length in 0..token.len() {
             let mut beginning = token[..length].to_vec();
-            let number = if length < 8 { 1 } else { 4 };
-            let expected = Answer { number, second: 0 };
-            assert_eq!(read_answer(&beginning), expected);
+            let (number, second) = if length < 8 { (1, 0) } else { (4, 2) };
+            assert_eq!(read_answer(&beginning), Answer { number, second });
             // The header's length brought in line: both readers still agree.
             if length >= 8 {
                 beginning[2..4].copy_from_slice(&(length as u16).to_be_bytes());

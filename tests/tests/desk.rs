@@ -57,7 +57,7 @@ fn several_files_are_headed_by_their_names() {
     let (first, second) = (sample("smallest.token"), sample("spring.token"));
     let (status, lines, messages) = list(&[&first, &second]);
     let listing = read_to_string(sample("smallest.listing")).expect("a listing");
-    let expected = format!("{first}:\n{listing}{second}:\nrefused 12 at 120\n");
+    let expected = format!("{first}:\n{listing}{second}:\nrefused 12 at 122\n");
     assert_eq!((status, lines), (1, expected));
     assert_eq!(messages, "");
 }
@@ -69,7 +69,7 @@ fn counts_and_their_sum() {
     let [rules, spring, four, kinds, smallest] = &files;
     let words = ["--count", rules, spring, four, kinds, smallest];
     let expected = format!(
-        "171 {rules}\n0 {spring} refused 12 at 120\n4 {four}\n2 {kinds}\n0 {smallest}\n177 in all\n"
+        "171 {rules}\n0 {spring} refused 12 at 122\n4 {four}\n2 {kinds}\n0 {smallest}\n177 in all\n"
     );
     assert_eq!(list(&words), (1, expected, String::new()));
     let expected = format!("4 {four}\n4 in all\n");
@@ -98,7 +98,7 @@ fn a_file_that_cannot_be_read() {
     let (four, spring) = (sample("four_rules.token"), sample("spring.token"));
     let a_folder = folder.0.display().to_string();
     for bad in [&missing, &a_folder] {
-        let expected = format!("4 {four}\n0 {spring} refused 12 at 120\n4 in all\n");
+        let expected = format!("4 {four}\n0 {spring} refused 12 at 122\n4 in all\n");
         let message = format!("list: cannot read {bad}\n");
         let given = list(&["--count", bad, &four, &spring]);
         assert_eq!(given, (2, expected.clone(), message.clone()));
@@ -142,7 +142,7 @@ fn empty_and_long_files() {
     let longer = folder.file("longer.token", &token.repeat(20));
     let empty = folder.file("empty.token", &[]);
     let expected = format!(
-        "0 {long} refused 4 at 0\n0 {longer} refused 4 at 0\n0 {empty} refused 1 at 0\n0 in all\n"
+        "0 {long} refused 4 at 2\n0 {longer} refused 4 at 2\n0 {empty} refused 1 at 0\n0 in all\n"
     );
     let given = list(&["--count", &long, &longer, &empty]);
     assert_eq!(given, (1, expected, String::new()));
@@ -153,6 +153,17 @@ fn help_and_unknown_options() {
     let (status, lines, messages) = list(&["--help"]);
     assert_eq!((status, messages), (0, String::new()));
     assert!(lines.starts_with("usage: ./list ") && lines.contains("--count"));
+    assert!(lines.contains("'refused N at P'"));
+    // Each number that a reading can give stands once in the table of places.
+    let numbers = lines
+        .lines()
+        .filter(|line| line.starts_with("  ") && !line.starts_with("  -"));
+    let numbers = numbers.filter_map(|line| line.trim_start().split("  ").next());
+    let mut numbers: Vec<u32> = numbers
+        .flat_map(|few| few.split(", ").filter_map(|n| n.parse().ok()))
+        .collect();
+    numbers.sort();
+    assert_eq!(numbers, (1..=21).collect::<Vec<u32>>());
     let token = sample("smallest.token");
     for word in ["--sum", "-c", "--counts", "-h"] {
         let (status, lines, messages) = list(&[word, &token]);

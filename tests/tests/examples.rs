@@ -1,6 +1,6 @@
-//! Every example of document 01 and of request 102, and those of the readings
-//! taken, against the proved library, the reader, the quick reader, the table,
-//! the listing and the writer.
+//! Every example of document 01 and of requests 102 and 107, and those of the
+//! readings taken, against the proved library, the reader, the quick reader, the
+//! table, the listing and the writer. Every place is worked out by hand.
 
 mod common;
 
@@ -10,7 +10,7 @@ use trusted_block_tests::forms;
 use trusted_block_tests::library;
 use trusted_block_tests::listing::{listing, program_output};
 use trusted_block_tests::parts::Part;
-use trusted_block_tests::reader::{read_draft, read_table};
+use trusted_block_tests::reader::read_table;
 use trusted_block_tests::views::{taken_apart, view};
 use trusted_block_tests::writer;
 
@@ -82,7 +82,8 @@ fn empty_input_is_1_and_header_alone_is_20() {
 fn mkvp_is_zero_in_an_external_token() {
     let mut token = smallest_token();
     token[79] = 1;
-    assert_refused(&token, 21, 18);
+    // #107: the MKVP's first byte, not the wrong one.
+    assert_refused(&token, 21, 64);
     token[0] = 0x1F;
     assert_accepted(&token, 2);
     assert!(listing(&token).starts_with("token internal 80 bytes 2 rows\n"));
@@ -91,16 +92,54 @@ fn mkvp_is_zero_in_an_external_token() {
     token[24..64].fill(0xFF);
     assert_accepted(&token, 2);
     token[64] = 1;
-    assert_refused(&token, 21, 18);
+    assert_refused(&token, 21, 64);
+}
+
+/// #107, one byte of T changed: the field's first byte, the part's length, or
+/// the start of the part, whichever byte of the field is wrong.
+#[test]
+fn places_in_the_smallest_token() {
+    for (byte, value, number, place) in [
+        (0, 0x1D, 2, 0),
+        (1, 1, 3, 1),
+        (2, 1, 4, 2),
+        (3, 0x51, 4, 2),
+        (4, 1, 5, 4),
+        (7, 1, 5, 4),
+        (8, 0x16, 7, 8),
+        (9, 1, 8, 9),
+        (10, 1, 6, 10),
+        (11, 9, 6, 10),
+        (11, 0x49, 6, 10),
+        (11, 0x47, 12, 20),
+        (11, 0x0D, 12, 18),
+        (13, 1, 10, 12),
+        (17, 2, 11, 14),
+        (14, 1, 11, 14),
+        (18, 1, 13, 18),
+        (19, 3, 13, 18),
+        (20, 1, 12, 20),
+        (21, 0x3D, 12, 20),
+        (21, 0x3F, 12, 20),
+        (22, 1, 8, 22),
+        (23, 1, 10, 23),
+        (64, 1, 21, 64),
+        (71, 0xFF, 21, 64),
+    ] {
+        let mut token = smallest_token();
+        token[byte] = value;
+        assert_refused(&token, number, place);
+    }
 }
 
 #[test]
 fn a_byte_after_the_token_is_4() {
     let mut token = smallest_token();
     token.push(0);
-    assert_refused(&token, 4, 0);
+    // #107: the header's length.
+    assert_refused(&token, 4, 2);
     assert_refused(&in_line(token), 6, 80);
-    assert_refused(&smallest_token()[..79], 4, 0);
+    assert_refused(&smallest_token()[..79], 4, 2);
 }
 
 #[test]
@@ -108,7 +147,7 @@ fn input_of_the_program_is_cut_at_3501_bytes() {
     let mut input = smallest_with(&[application_data(3414)]);
     assert!(program_output(&input).starts_with("token external 3500 bytes 3 rows\n"));
     input.resize(5000, 0);
-    assert_eq!(program_output(&input), "refused 4 at 0\n");
+    assert_eq!(program_output(&input), "refused 4 at 2\n");
     assert_eq!(program_output(&[]), "refused 1 at 0\n");
 }
 
@@ -138,7 +177,7 @@ fn dates_exist_or_not() {
         if exists {
             assert_accepted(&token, 3);
         } else {
-            assert_refused(&token, 19, 80);
+            assert_refused(&token, 19, 88);
         }
     }
 }
@@ -148,7 +187,8 @@ fn activation_is_not_after_expiration() {
     let (early, late) = ([7, 0xD0, 2, 29], [7, 0xD0, 3, 1]);
     let both = |first, second| token_of(&[information(&[dates(first, second), protection()])]);
     assert_accepted(&both(early, late), 3);
-    assert_refused(&both(late, early), 19, 18);
+    // At the later of the two.
+    assert_refused(&both(late, early), 19, 18 + 12);
 }
 
 /// #102: with flags 0 the dates are any bytes, and the views give them.
@@ -156,14 +196,14 @@ fn activation_is_not_after_expiration() {
 fn dates_are_judged_only_with_flags_1() {
     let (none, all, day) = ([0; 4], [0xFF; 4], [7, 0xD0, 2, 29]);
     let later = [7, 0xD0, 3, 1];
-    for (activation, expiration) in [
-        (none, none),
-        (all, all),
-        (later, day),
-        (none, day),
-        (day, none),
-        (all, day),
-        (day, all),
+    for (activation, expiration, place) in [
+        (none, none, 88),
+        (all, all, 88),
+        (later, day, 92),
+        (none, day, 88),
+        (day, none, 92),
+        (all, day, 88),
+        (day, all, 92),
     ] {
         let with = |flags| {
             let dates = dates_with_flags(flags, activation, expiration);
@@ -176,15 +216,15 @@ fn dates_are_judged_only_with_flags_1() {
             assert_eq!(library::view(&token, 2, field), Ok((offset, 4)));
             assert_eq!(token[offset as usize..][..4], bytes);
         }
-        assert_refused(&with(1), 19, 80);
+        assert_refused(&with(1), 19, place);
         // The flags are judged as before, and before the dates.
-        assert_refused(&with(2), 11, 80);
+        assert_refused(&with(2), 11, 86);
     }
 }
 
 #[test]
 fn rule_ids_have_their_form() {
-    assert_refused(&smallest_with(&[rule(b"        ", &[])]), 17, 80);
+    assert_refused(&smallest_with(&[rule(b"        ", &[])]), 17, 84);
     assert_accepted(&smallest_with(&[rule(b"A       ", &[])]), 3);
     for right in [
         b"A-_z0Z9a",
@@ -195,57 +235,81 @@ fn rule_ids_have_their_form() {
     ] {
         assert_accepted(&smallest_with(&[rule(right, &[])]), 3);
     }
-    for wrong in [
-        b" A      ",
-        b"A B     ",
-        b"A*      ",
-        b"ABCDEFG\0",
-        b"A\xC1      ",
+    // With the byte at which no Rule ID can go on.
+    for (wrong, byte) in [
+        (b" A      ", 0),
+        (b"A B     ", 2),
+        (b"A     - ", 6),
+        (b"A    B C", 5),
+        (b"A*      ", 1),
+        (b"A *     ", 2),
+        (b"*A B    ", 0),
+        (b"ABCDEFG\0", 7),
+        (b"A\xC1      ", 1),
     ] {
-        assert_refused(&smallest_with(&[rule(wrong, &[])]), 17, 80);
+        assert_refused(&smallest_with(&[rule(wrong, &[])]), 17, 84 + byte);
         for tag in [2, 4] {
             let reference = subsection(tag, &[&[0], wrong]);
-            assert_refused(&smallest_with(&[rule(b"A       ", &[reference])]), 17, 100);
+            let token = smallest_with(&[rule(b"A       ", &[reference])]);
+            assert_refused(&token, 17, 106 + byte);
         }
+    }
+    // The reserved byte of a reference comes before its Rule ID.
+    for tag in [2, 4] {
+        let reference = subsection(tag, &[&[1], b" A      "]);
+        let token = smallest_with(&[rule(RULE_ID, &[reference])]);
+        assert_refused(&token, 10, 105);
     }
 }
 
+/// Label templates, and the byte at which none can go on.
+const LABELS: &[(&[u8], Option<u32>)] = &[
+    (b"*", None),
+    (b"*1", None),
+    (b"A*", None),
+    (b"A", None),
+    (b"#$@a9Z", None),
+    (&[b'A'; 64], None),
+    (b"1*", Some(0)),
+    (b"1", Some(0)),
+    (b"", Some(0)),
+    (b" A", Some(0)),
+    (b"-A*B", Some(0)),
+    (b"**", Some(1)),
+    (b"A-", Some(1)),
+    (b"A_", Some(1)),
+    (b"A\0", Some(1)),
+    (b"*A*", Some(2)),
+    (b"A*B", Some(2)),
+    (b"A**", Some(2)),
+    (b"A *", Some(2)),
+    (b"A B", Some(2)),
+    (b"* A", Some(2)),
+    (b"A* *", Some(3)),
+    (b"AB*1", Some(3)),
+    (b"*A  -", Some(4)),
+];
+
 #[test]
 fn label_templates_have_their_form() {
-    let mut all_signs = [b'A'; 64];
-    all_signs[63] = b'*';
-    let examples: [(&[u8], bool); 19] = [
-        (b"*", true),
-        (b"*1", true),
-        (b"A*", true),
-        (b"A", true),
-        (b"#$@a9Z", true),
-        (&[b'A'; 64], true),
-        (&all_signs, true),
-        (b"1*", false),
-        (b"1", false),
-        (b"**", false),
-        (b"*A*", false),
-        (b"A*B", false),
-        (b"A *", false),
-        (b"A B", false),
-        (b"", false),
-        (b" A", false),
-        (b"A-", false),
-        (b"A_", false),
-        (b"A\0", false),
-    ];
-    for (signs, right) in examples {
+    let with = |label: &[u8]| {
+        let parameters = subsection(5, &[&[0, 0, 0, 0, 64], label]);
+        smallest_with(&[rule(RULE_ID, &[parameters])])
+    };
+    for (signs, wrong) in LABELS {
         let mut label = [b' '; 64];
         label[..signs.len()].copy_from_slice(signs);
-        let parameters = subsection(5, &[&[0, 0, 0, 0, 64], &label]);
-        let token = smallest_with(&[rule(RULE_ID, &[parameters])]);
-        if right {
-            assert_accepted(&token, 4);
-        } else {
-            assert_refused(&token, 17, 100);
+        match wrong {
+            None => assert_accepted(&with(&label), 4),
+            Some(byte) => assert_refused(&with(&label), 17, 110 + byte),
         }
     }
+    // A star as the last of 64, and a second one.
+    let mut label = [b'A'; 64];
+    label[63] = b'*';
+    assert_accepted(&with(&label), 4);
+    label[0] = b'*';
+    assert_refused(&with(&label), 17, 110 + 63);
 }
 
 #[test]
@@ -263,14 +327,17 @@ fn token_with_171_bare_rules() {
     assert_eq!(token.len(), 3500);
     assert_accepted(&token, 173);
     let one_more = smallest_with(&[rules, vec![rule(b"one-more", &[])]].concat());
-    assert_refused(&one_more, 4, 0);
+    assert_refused(&one_more, 4, 2);
 }
 
 #[test]
 fn application_data_up_to_3414_bytes() {
     assert_accepted(&smallest_with(&[application_data(3414)]), 3);
     assert_accepted(&smallest_with(&[application_data(0)]), 3);
-    assert_refused(&smallest_with(&[application_data(3415)]), 4, 0);
+    let mut miscounted = application_data(9);
+    miscounted[5] = 8;
+    assert_refused(&smallest_with(&[miscounted]), 15, 82);
+    assert_refused(&smallest_with(&[application_data(3415)]), 4, 2);
     let mut draft = smallest_token();
     draft.resize(4000, 0x77);
     let before = draft.clone();
@@ -295,7 +362,7 @@ fn subsections_past_the_stated_length_are_refused() {
     assert_accepted(&smallest_with(std::slice::from_ref(&honest)), 4);
     let mut shorter = honest.clone();
     shorter[3] = 28;
-    assert_refused(&smallest_with(&[shorter]), 12, 100);
+    assert_refused(&smallest_with(&[shorter]), 12, 102);
     let mut bare = honest;
     bare[3] = 20;
     assert_refused(&smallest_with(&[bare]), 7, 100);
@@ -312,98 +379,5 @@ fn export_rule_keeps_any_generated_length() {
     }
     let mut generate = rule(RULE_ID, &[]);
     generate[16] = 9;
-    assert_refused(&smallest_with(&[generate]), 11, 80);
-}
-
-#[test]
-fn writer_builds_the_smallest_token() {
-    let mut draft = [0x77; 81];
-    assert_eq!(writer::start(&mut draft, 0x1E), answer(0, 8));
-    assert_eq!(draft[8..], [0x77; 73]);
-    assert_eq!(writer::finish(&draft), answer(20, 8));
-    let information = Part::Information { flags: 0 };
-    assert_eq!(writer::add(&mut draft, &information), answer(0, 18));
-    assert_eq!(writer::finish(&draft), answer(20, 8));
-    assert_eq!(writer::add(&mut draft, &information), answer(9, 18));
-    let protection = Part::Protection {
-        mac_key: vec![0; 32],
-        mac: vec![0; 8],
-        mkvp: vec![0; 16],
-    };
-    assert_eq!(writer::add(&mut draft, &protection), answer(0, 80));
-    assert_eq!(writer::finish(&draft), answer(0, 80));
-    assert_eq!(draft[..80], smallest_token());
-    assert_eq!(draft[80], 0x77);
-    assert_eq!(read_draft(&draft).map(|rows| rows.len()), Ok(2));
-}
-
-#[test]
-fn writer_starts_only_with_room_and_a_listed_id() {
-    for length in 0..8 {
-        let mut draft = vec![0x77; length];
-        assert_eq!(writer::start(&mut draft, 0x20), answer(23, 0));
-        assert_eq!(draft, vec![0x77; length]);
-        assert_eq!(writer::finish(&draft), answer(1, 0));
-    }
-    let mut draft = [0x77; 8];
-    assert_eq!(writer::start(&mut draft, 0x20), answer(2, 0));
-    assert_eq!(draft, [0x77; 8]);
-    assert_eq!(writer::start(&mut draft, 0x1F), answer(0, 8));
-    assert_eq!(draft, [0x1F, 0, 0, 8, 0, 0, 0, 0]);
-}
-
-#[test]
-fn lent_lengths_are_24_before_25_before_23() {
-    let mut draft = smallest_token();
-    let before = draft.clone();
-    let data = |length| Part::ApplicationData {
-        data: vec![0; length],
-    };
-    for length in [1, 3415, 65_529, 65_530, 65_535] {
-        assert_eq!(writer::add(&mut draft, &data(length)), answer(23, 80));
-    }
-    assert_eq!(writer::add(&mut draft, &data(65_536)), answer(24, 80));
-    let variant = |length| Part::TransportVariant {
-        variant: vec![0; length],
-    };
-    assert_eq!(writer::add(&mut draft, &variant(256)), answer(24, 80));
-    assert_eq!(writer::add(&mut draft, &variant(255)), answer(25, 80));
-    assert_eq!(draft, before);
-}
-
-#[test]
-fn label_template_of_another_length() {
-    let mut draft = smallest_with(&[rule(RULE_ID, &[])]);
-    draft.resize(1000, 0);
-    let before = draft.clone();
-    let parameters = |length: usize, mask: usize| Part::TokenParameters {
-        mask: vec![0; mask],
-        template: vec![0; 8],
-        label_template: vec![b'A'; length],
-    };
-    assert_eq!(writer::add(&mut draft, &parameters(10, 8)), answer(18, 100));
-    assert_eq!(
-        writer::add(&mut draft, &parameters(256, 8)),
-        answer(24, 100)
-    );
-    assert_eq!(writer::add(&mut draft, &parameters(64, 7)), answer(24, 100));
-    assert_eq!(draft, before);
-    assert_eq!(writer::add(&mut draft, &parameters(64, 8)), answer(0, 190));
-}
-
-#[test]
-fn minimum_added_after_the_mask_is_18_at_the_mask() {
-    let mut draft = smallest_with(&[rule(RULE_ID, &[token_parameters(8)])]);
-    draft.resize(1000, 0);
-    let before = draft.clone();
-    let parameters = |minimum| Part::ExportParameters {
-        minimum,
-        maximum: 24,
-        variant: vec![],
-        cv: vec![],
-    };
-    assert_eq!(writer::add(&mut draft, &parameters(16)), answer(18, 100));
-    assert_eq!(draft, before);
-    assert_eq!(writer::add(&mut draft, &parameters(8)), answer(0, 138));
-    assert_eq!(writer::finish(&draft), answer(0, 138));
+    assert_refused(&smallest_with(&[generate]), 11, 96);
 }

@@ -207,7 +207,7 @@ fn every_length_of_application_data() {
     for length in 0..=LONGEST + 1 {
         let token = smallest_with(&[application_data(length)]);
         let fits = length <= 3414;
-        let expected = if fits { answer(0, 3) } else { answer(4, 0) };
+        let expected = if fits { answer(0, 3) } else { answer(4, 2) };
         assert_eq!(reading::compare(&token), expected);
         let data = vec![0xDA; length];
         for room in [token.len() - 1, token.len(), LONGEST] {

@@ -1,11 +1,12 @@
 //! Every byte value at every place of a Rule ID and of a label template,
-//! among characters and spaces, by the library's reader and writer.
+//! among characters and spaces, by the library's reader and writer: accepted,
+//! or refused at the byte at which no form can go on.
 
 mod common;
 
 use common::*;
 use trusted_block_tests::fast::fast_read;
-use trusted_block_tests::forms::{is_label_template, is_rule_id};
+use trusted_block_tests::generate::form_faults::{end_of_label, end_of_rule_id};
 use trusted_block_tests::library;
 use trusted_block_tests::library_writer;
 use trusted_block_tests::parts::Part;
@@ -15,13 +16,13 @@ use trusted_block_tests::writer;
 const RULE_ID: &[u8; 8] = b"A-b_C3d4";
 
 /// A token in which a Rule ID stands, and where: a rule's own, in a 0002, in
-/// a 0004; and the place of the refusal.
-fn with_rule_id(tag: u16) -> (Vec<u8>, usize, u32) {
+/// a 0004.
+fn with_rule_id(tag: u16) -> (Vec<u8>, usize) {
     match tag {
-        0 => (smallest_with(&[rule(RULE_ID, &[])]), 84, 80),
+        0 => (smallest_with(&[rule(RULE_ID, &[])]), 84),
         _ => {
             let reference = subsection(tag, &[&[0], RULE_ID]);
-            (smallest_with(&[rule(b"OTHER   ", &[reference])]), 106, 100)
+            (smallest_with(&[rule(b"OTHER   ", &[reference])]), 106)
         }
     }
 }
@@ -32,12 +33,11 @@ fn with_label(label: &[u8; 64]) -> (Vec<u8>, usize) {
     (smallest_with(&[rule(b"OTHER   ", &[parameters])]), 110)
 }
 
-/// The three readers say 17 exactly where the form is not met.
-fn check(token: &[u8], place: u32, rows: u32, legal: bool) {
-    let expected = if legal {
-        answer(0, rows)
-    } else {
-        answer(17, place)
+/// The three readers accept the field at a place, or say 17 at this byte of it.
+fn check(token: &[u8], at: usize, rows: u32, wrong: Option<usize>) {
+    let expected = match wrong {
+        None => answer(0, rows),
+        Some(byte) => answer(17, (at + byte) as u32),
     };
     assert_eq!(read_answer(token), expected, "{token:02X?}");
     assert_eq!(library::read(token), expected, "{token:02X?}");
@@ -51,10 +51,46 @@ fn padded<const N: usize>(field: &[u8; N], characters: usize) -> [u8; N] {
     field
 }
 
+/// What may stand in a field, spaces and stars left aside.
+fn is_plain(value: u8, signs: &[u8]) -> bool {
+    value.is_ascii_alphanumeric() || signs.contains(&value)
+}
+
+/// Where a Rule ID of so many characters goes wrong by this value at a place.
+fn wrong_in_rule_id(characters: usize, changed: usize, value: u8) -> Option<usize> {
+    match value {
+        b' ' if changed == 0 => Some(0),
+        // The next character stands after a space.
+        b' ' if changed + 1 < characters => Some(changed + 1),
+        b' ' => None,
+        _ if changed <= characters && is_plain(value, b"-_") => None,
+        _ => Some(changed),
+    }
+}
+
+/// The same of a label template without a star before.
+fn wrong_in_label(characters: usize, changed: usize, value: u8) -> Option<usize> {
+    match value {
+        b' ' | b'0'..=b'9' if changed == 0 => Some(0),
+        b'*' if changed == 0 => None,
+        // The next character stands after a space, or after a star within.
+        b' ' | b'*' if changed + 1 < characters => Some(changed + 1),
+        b' ' => None,
+        b'*' if changed <= characters => None,
+        _ if changed <= characters && is_plain(value, b"#$@") => None,
+        _ => Some(changed),
+    }
+}
+
+/// Where the form ends within the field, as the runs say.
+fn wrong_by_runs(end: usize, length: usize) -> Option<usize> {
+    (end < length).then_some(end)
+}
+
 /// Every value at every place of Rule IDs of every length, where a Rule ID
 /// stands: counts the legal ones.
 fn every_rule_id(tag: u16) -> [usize; 8] {
-    let (mut token, at, place) = with_rule_id(tag);
+    let (mut token, at) = with_rule_id(tag);
     let rows = if tag == 0 { 3 } else { 4 };
     let mut legal = [0; 8];
     for characters in 1..=8 {
@@ -63,8 +99,10 @@ fn every_rule_id(tag: u16) -> [usize; 8] {
             for value in 0..=255 {
                 field[changed] = value;
                 token[at..at + 8].copy_from_slice(&field);
-                check(&token, place, rows, is_rule_id(&field));
-                if characters == 8 && is_rule_id(&field) {
+                let wrong = wrong_in_rule_id(characters, changed, value);
+                check(&token, at, rows, wrong);
+                assert_eq!(wrong, wrong_by_runs(end_of_rule_id(&field), 8));
+                if characters == 8 && wrong.is_none() {
                     legal[changed] += 1;
                 }
             }
@@ -97,8 +135,12 @@ fn every_label(label: &[u8; 64], characters: usize) -> [usize; 64] {
         for value in 0..=255 {
             field[changed] = value;
             token[at..at + 64].copy_from_slice(&field);
-            check(&token, 100, 4, is_label_template(&field));
-            legal[changed] += usize::from(is_label_template(&field));
+            let wrong = wrong_by_runs(end_of_label(&field), 64);
+            check(&token, at, 4, wrong);
+            if !label.contains(&b'*') {
+                assert_eq!(wrong, wrong_in_label(characters, changed, value));
+            }
+            legal[changed] += usize::from(wrong.is_none());
         }
     }
     legal
@@ -137,14 +179,14 @@ fn every_value_in_label_templates_of_many_lengths() {
 /// Two values changed at once, at the first, the middle and the last place.
 #[test]
 fn every_pair_of_values_in_a_rule_id() {
-    let (mut token, at, place) = with_rule_id(0);
+    let (mut token, at) = with_rule_id(0);
     for (one, other) in [(0, 7), (3, 4), (0, 1), (6, 7)] {
         for pair in 0..=u16::MAX {
             let [high, low] = pair.to_be_bytes();
             let mut field = *RULE_ID;
             (field[one], field[other]) = (high, low);
             token[at..at + 8].copy_from_slice(&field);
-            check(&token, place, 3, is_rule_id(&field));
+            check(&token, at, 3, wrong_by_runs(end_of_rule_id(&field), 8));
         }
     }
 }

@@ -33,17 +33,16 @@ fn date(year: u16, month: u8, day: u8) -> [u8; 4] {
     [high, low, month, day]
 }
 
-/// The token with these dates must be accepted with flags 0, and with flags 1
-/// be read as `legal` says.
-fn check(token: &mut [u8], activation: [u8; 4], expiration: [u8; 4], legal: bool) {
+/// The token with these dates must be accepted with flags 0, and with flags 1,
+/// too, or be refused at a place.
+fn check(token: &mut [u8], activation: [u8; 4], expiration: [u8; 4], refused: Option<usize>) {
     token[PLACE..PLACE + 4].copy_from_slice(&activation);
     token[PLACE + 4..PLACE + 8].copy_from_slice(&expiration);
-    for (flags, accepted) in [(0, true), (1, legal)] {
+    for (flags, refused) in [(0, None), (1, refused)] {
         token[FLAGS] = flags;
-        let expected = if accepted {
-            answer(0, 3)
-        } else {
-            answer(19, 18)
+        let expected = match refused {
+            None => answer(0, 3),
+            Some(place) => answer(19, place as u32),
         };
         let given = library::read(token);
         assert_eq!(
@@ -53,11 +52,13 @@ fn check(token: &mut [u8], activation: [u8; 4], expiration: [u8; 4], legal: bool
     }
 }
 
-/// The same date as activation and as expiration, with the furthest other.
+/// The same date as activation and as expiration, with the furthest other. It
+/// is refused where it stands.
 fn check_each(token: &mut [u8], date: [u8; 4]) -> bool {
     let exists = date_exists(&date);
-    check(token, date, LAST, exists);
-    check(token, FIRST, date, exists);
+    let refused_at = |place| (!exists).then_some(place);
+    check(token, date, LAST, refused_at(PLACE));
+    check(token, FIRST, date, refused_at(PLACE + 4));
     exists
 }
 
@@ -91,16 +92,16 @@ fn every_day_and_the_days_around_each_month() {
 }
 
 /// From the first day to the last: each day with itself, with the next one,
-/// and with the next one before it.
+/// and with the next one before it, which is refused at the later field.
 #[test]
 fn every_day_and_the_next() {
     let mut token = with_dates();
     let mut days = 1;
     let mut day = FIRST;
     while let Some(next) = next_day(day) {
-        check(&mut token, day, day, true);
-        check(&mut token, day, next, true);
-        check(&mut token, next, day, false);
+        check(&mut token, day, day, None);
+        check(&mut token, day, next, None);
+        check(&mut token, next, day, Some(PLACE + 4));
         day = next;
         days += 1;
     }
@@ -165,7 +166,7 @@ fn add_both(empty: &[u8], flags: u16, date: [u8; 4], accepted: bool) {
         expiration: date.to_vec(),
     };
     let mut draft = empty.to_vec();
-    let expected = if accepted { (0, 34) } else { (19, 18) };
+    let expected = if accepted { (0, 34) } else { (19, PLACE) };
     let given = library_writer::add(&mut draft, &part);
     assert_eq!(given, Answer::new(expected.0, expected.1), "{part:?}");
     assert_eq!(draft == empty, !accepted);

@@ -48,16 +48,18 @@ fn fields_of_sections() {
         modulus: bytes(modulus),
         flags: 0,
     };
-    for (exponent, modulus, number) in [
-        (65_536, 64, 24),
-        (1, 65_536, 24),
-        (65_535, 64, 23),
-        (1, 65_535, 23),
-        (0, 64, 16),
-        (513, 64, 16),
-        (1, 0, 16),
+    // 24 and 23 at the draft's length, 16 at x or y of the key.
+    for (exponent, modulus, number, place) in [
+        (65_536, 64, 24, 80),
+        (1, 65_536, 24, 80),
+        (65_535, 64, 23, 80),
+        (1, 65_535, 23, 80),
+        (0, 64, 16, 86),
+        (513, 64, 16, 86),
+        (1, 0, 16, 90),
     ] {
-        assert_eq!(added(&draft, key(exponent, modulus)), answer(number, 80));
+        let given = added(&draft, key(exponent, modulus));
+        assert_eq!(given, answer(number, place), "{exponent} {modulus}");
     }
 }
 
@@ -86,7 +88,7 @@ fn fields_of_a_rules_subsections() {
     };
     assert_eq!(added(&draft, export(256, 0)), answer(24, 100));
     assert_eq!(added(&draft, export(0, 256)), answer(24, 100));
-    assert_eq!(added(&draft, export(0, 255)), answer(18, 100));
+    assert_eq!(added(&draft, export(0, 255)), answer(18, 111));
     assert_eq!(added(&draft, export(255, 16)), answer(0, 383));
 }
 
@@ -98,20 +100,21 @@ fn mask_template_and_label() {
         template: bytes(template),
         label_template: bytes(label),
     };
-    for (mask, template, label, number) in [
-        (256, 256, 0, 24),
-        (8, 16, 0, 24),
-        (16, 8, 0, 24),
-        (0, 8, 0, 24),
-        (8, 0, 64, 24),
-        (0, 0, 256, 24),
-        (255, 255, 0, 18),
-        (24, 24, 0, 18),
-        (0, 0, 255, 18),
-        (0, 0, 63, 18),
+    // 24 at the draft's length, 18 at m or z.
+    for (mask, template, label, number, place) in [
+        (256, 256, 0, 24, 100),
+        (8, 16, 0, 24, 100),
+        (16, 8, 0, 24, 100),
+        (0, 8, 0, 24, 100),
+        (8, 0, 64, 24, 100),
+        (0, 0, 256, 24, 100),
+        (255, 255, 0, 18, 108),
+        (24, 24, 0, 18, 108),
+        (0, 0, 255, 18, 109),
+        (8, 8, 63, 18, 125),
     ] {
         let given = added(&draft, parameters(mask, template, label));
-        assert_eq!(given, answer(number, 100), "{mask} {template} {label}");
+        assert_eq!(given, answer(number, place), "{mask} {template} {label}");
     }
     assert_eq!(added(&draft, parameters(0, 0, 0)), answer(0, 110));
     assert_eq!(added(&draft, parameters(16, 16, 64)), answer(0, 206));

@@ -218,24 +218,24 @@ fn long_data() {
 }
 
 /// 24 goes by x and y alone: a key whose section's length can't be stated is
-/// 23, as is any other that passes 3,500 bytes.
+/// 23, as is any other that passes 3,500 bytes. 16 is told at x or at y.
 #[test]
 fn long_keys() {
     let draft = token_of(&[]);
-    for (exponent, modulus, number) in [
-        (1, 3475, 16),
-        (1, 3476, 23),
-        (3475, 1, 16),
-        (3476, 1, 23),
-        (32_760, 32_759, 23),
-        (32_760, 32_760, 23),
-        (65_535, 64, 23),
-        (1, 65_535, 23),
-        (65_535, 65_535, 23),
-        (65_536, 64, 24),
-        (1, 65_536, 24),
-        (65_536, 65_535, 24),
-        (65_537, 65_536, 24),
+    for (exponent, modulus, number, place) in [
+        (1, 3475, 16, 18),
+        (1, 3476, 23, 8),
+        (3475, 1, 16, 14),
+        (3476, 1, 23, 8),
+        (32_760, 32_759, 23, 8),
+        (32_760, 32_760, 23, 8),
+        (65_535, 64, 23, 8),
+        (1, 65_535, 23, 8),
+        (65_535, 65_535, 23, 8),
+        (65_536, 64, 24, 8),
+        (1, 65_536, 24, 8),
+        (65_536, 65_535, 24, 8),
+        (65_537, 65_536, 24, 8),
     ] {
         let part = Part::PublicKey {
             modulus_bits: 512,
@@ -245,8 +245,7 @@ fn long_keys() {
         };
         for more in [3492, 200_000] {
             let given = added(&draft, more, &part);
-            let expected = at_the_end(number, &draft);
-            assert_eq!(given, expected, "{exponent} {modulus}");
+            assert_eq!(given, answer(number, place), "{exponent} {modulus}");
         }
     }
 }

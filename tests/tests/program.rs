@@ -67,7 +67,7 @@ fn long_inputs() {
         for byte in [0x00, 0x1E, 0xFF] {
             let mut input = longest.clone();
             input.resize(length, byte);
-            assert_eq!(program_output(&input), "refused 4 at 0\n");
+            assert_eq!(program_output(&input), "refused 4 at 2\n");
             try_input(&input);
             try_input(&vec![byte; length]);
         }

@@ -75,7 +75,7 @@ unfolding subsectionAdded
 none-last d w i b h s hs =
     then-same (reading false d) _ _
     (λ ss e.
-    ap (λ (n : ℕ). refused (fault 25 n 0)) (sym s)
+    ap (λ (n : ℕ). refused (fault 25 n n)) (sym s)
     ∙ sym (need-failed _ _ _ (ap (λ (y : List Section). eqb (idOf (drop (lastPlace 0 8 y) d)) i) (empty d ss b e s) ∙ apart)))
   where
     apart : eqb (idOf d) i ≡ false

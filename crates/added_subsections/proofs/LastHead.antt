@@ -14,16 +14,19 @@ use borrow.Author.Tests.{le-leb, eqb-true}
 use Rattle.format.specs.Bytes.{Bytes, number, bytesAt, allZero}
 use Rattle.format.specs.Parts.{Kind, rule, information, layout, sameKind, Part, external}
 use Rattle.format.specs.Rules.{check, checks, Section}
-use Rattle.format.specs.Reading.{Fault, Outcome, refused, found, andThen, idOf, stated, sectionKind, partIn, kindBefore, ruleBefore, fieldChecks, holdsSubs, sectionChecks, sectionRest, section, headerChecks, reading}
+use Rattle.format.specs.Reading.{Fault, Outcome, refused, found, andThen, idOf, stated, sectionKind, partIn, partSlots, Test, located, kindBefore, ruleBefore, fieldChecks, holdsSubs, sectionChecks, sectionRest, section, headerChecks, reading}
 use Rattle.format.specs.Writer.{writeAnswer, draftAfter}
 use Rattle.format.specs.Layout.{Fields}
 use Rattle.format.specs.declared.Answer.the-variants.{Refused}
 use Rattle.format.specs.Slots.{least}
-use Rattle.format.proofs.Tests.{Hold, refused-not, tests-lead, hold-split, hold-join}
+use Rattle.format.proofs.Tests.{Hold, Kept, refused-not, tests-lead, hold-split, hold-join}
+use Rattle.format.proofs.Offsets.{Inner, fields-inner}
 use Rattle.format.proofs.Changes.{restate}
 use Rattle.format.proofs.Numbers.{bytes-take, bytes-drop}
 use Rattle.format.proofs.Grouping.{all-join}
-use Rattle.format.proofs.Finding.{and-join, or-left, or-right}
+use Rattle.format.proofs.Finding.{and-join, or-left, or-right, every-kind}
+use Rattle.format.proofs.Numbering.{low, inner-low}
+use Rattle.format.proofs.Sound.{fixed-made}
 use Rattle.format.proofs.Turns.{sectionsFrom, sections-from}
 use Rattle.contents.proofs.Headers.{lengths}
 use Rattle.draft_parts.specs.Tiling.{LastAt}
@@ -33,7 +36,7 @@ use Rattle.longer_drafts.proofs.Longer.{restate-long, grown-long}
 use Rattle.longer_drafts.proofs.Outcomes.{told-refused}
 use Rattle.longer_drafts.proofs.Restating.{behind-restated, restate-id, restate-stated, restate-bytes, id-taken}
 use Rattle.drafts.proofs.Calls.{appended-refused}
-use Rattle.drafts.proofs.Refusals.{Late, sections-front, tests-late}
+use Rattle.drafts.proofs.Refusals.{Late, sections-front, tests-late, header-inner}
 use Rattle.drafts.proofs.Alone.{known, alone}
 use Rattle.added_subsections.specs.LastSection.{moved, holdsSubsections, fixedFields, LastOpen}
 use Rattle.added_subsections.proofs.SubsectionFronts.{grown-cut, before-last, last-bytes}
@@ -67,8 +70,8 @@ cons e f = ap₂ (λ (x : List ℕ) (y : Fields). x ∷ y) e f
 -- The head's tests pass in the section where they pass in the longer one, if those of its fields do.
 same-head : (x : Bool) (k : Kind) (seen : Bool) (ss : List Section) (m : ℕ) (z w : List ℕ) → holdsSubs k ≡ true → least (layout k) ≤ length z
     → 4 ≤ length z → stated z ≡ length z
-    → (Hold (fieldChecks x k (restate 0 m z ++ w) ++ (check 3 9 (not (sameKind rule k && ruleBefore (partIn k (restate 0 m z ++ w)) ss)) ∷ []))
-    → Hold (fieldChecks x k z ++ (check 3 9 (not (sameKind rule k && ruleBefore (partIn k z) ss)) ∷ [])))
+    → (Hold (fieldChecks x k (restate 0 m z ++ w) ++ located (partSlots k (restate 0 m z ++ w)) (check 0 9 (not (sameKind rule k && ruleBefore (partIn k (restate 0 m z ++ w)) ss)) ∷ []))
+    → Hold (fieldChecks x k z ++ located (partSlots k z) (check 0 9 (not (sameKind rule k && ruleBefore (partIn k z) ss)) ∷ [])))
     → Hold (sectionChecks x k seen (ruleBefore (partIn k (restate 0 m z ++ w)) ss) (restate 0 m z ++ w))
     → Hold (sectionChecks x k seen (ruleBefore (partIn k z) ss) z)
 same-head x k seen ss m z w hs l four e fields h = (
@@ -92,7 +95,7 @@ rule-head x seen ss m z w l e =
     (cons (field-same m z w 18 1 (omega arith) (omega arith))
     (cons (field-same m z w 19 1 (omega arith) (omega arith)) refl)))))) in
     same-head x rule seen ss m z w refl (omega arith) (omega arith) e
-    (subst (λ (q : Part). Hold (checks x rule (q .fields) ++ (check 3 9 (not (sameKind rule rule && ruleBefore q ss)) ∷ []))) same)
+    (subst (λ (q : Part). Kept (checks x rule (q .fields) ++ (check 0 9 (not (sameKind rule rule && ruleBefore q ss)) ∷ []))) same)
 
 information-head : (x seen : Bool) (ss : List Section) (m : ℕ) (z w : List ℕ) → 10 ≤ length z → stated z ≡ length z
     → Hold (sectionChecks x information seen (ruleBefore (partIn information (restate 0 m z ++ w)) ss) (restate 0 m z ++ w))
@@ -103,7 +106,7 @@ information-head x seen ss m z w l e =
     same-head x information seen ss m z w refl (omega arith) (omega arith) e
     (λ h. (
       ap allZero (sym (field-same m z w 4 2 (omega arith) (omega arith))) ∙ h .0,
-      subst (λ (q : Part). Hold (checks x information (q .fields) ++ (check 3 9 (not (sameKind rule information && ruleBefore q ss)) ∷ []))) same (h .1),
+      subst (λ (q : Part). Kept (checks x information (q .fields) ++ (check 0 9 (not (sameKind rule information && ruleBefore q ss)) ∷ []))) same (h .1),
     ))
 
 -- ---- the last section
@@ -134,21 +137,21 @@ joined j ss (found s) = refl
 
 -- The longer section is refused after its head: the head passes in both, and what is left of the draft is the section itself,
 -- read alone.
-rest-left : (x : Bool) (k : Kind) (ss : List Section) (at m : ℕ) (z w : List ℕ) (f : Fault) → 8 ≤ at → 4 ≤ length z → stated z ≡ length z
-    → m ≡ length z + length w → m < 65536 → sectionKind (idOf z) ≡ some k
+rest-left : (x : Bool) (k : Kind) (ss : List Section) (at m n : ℕ) (z w : List ℕ) (f : Fault) → 8 ≤ at → 4 ≤ length z → stated z ≡ length z
+    → m ≡ length z + length w → m < 65536 → sectionKind (idOf z) ≡ some k → Inner n (sectionChecks x k (kindBefore k ss) (ruleBefore (partIn k (restate 0 m z ++ w)) ss) (restate 0 m z ++ w))
     → (Hold (sectionChecks x k (kindBefore k ss) (ruleBefore (partIn k (restate 0 m z ++ w)) ss) (restate 0 m z ++ w))
     → Hold (sectionChecks x k (kindBefore k ss) (ruleBefore (partIn k z) ss) z))
-    → sectionsFrom false x ss at (restate 0 m z ++ w) ≡ refused f → at < f .part
+    → sectionsFrom false x ss at (restate 0 m z ++ w) ≡ refused f → at + n ≤ f .place
     → sectionsFrom false x ss at z ≡ andThen (moved (at - 8) (sectionsFrom false x [] 8 z)) (λ ts. found (ss ++ ts))
 unfolding andThen
-rest-left x k ss at m z w f eight four same em small kind heads e late =
+rest-left x k ss at m n z w f eight four same em small kind inner heads e late =
     let r : List ℕ = restate 0 m z ++ w in
     let lr = restate-long 0 m z in
     let la = length-append (restate 0 m z) w in
     let st : stated r ≡ m = restate-stated m z w four small in
     let id : sectionKind (idOf r) ≡ some k = ap sectionKind (restate-id m z w four) ∙ kind in
     let one : andThen (section false x ss at r) (λ s. found (ss ++ s ∷ [])) ≡ refused f = sym (alone x ss at r (omega arith) (omega arith)) ∙ e in
-    let tests = tests-late at (sectionChecks x k (kindBefore k ss) (ruleBefore (partIn k r) ss) r) (sectionRest false x k at r) f
+    let tests = tests-late at n (sectionChecks x k (kindBefore k ss) (ruleBefore (partIn k r) ss) r) (sectionRest false x k at r) f inner
     (sym (known x k ss at r (omega arith) id) ∙ refusal (section false x ss at r) one) in
     let hold = heads (⊎-elim (λ q. absurd (omega arith)) (λ q. q .0) tests) in
     let place : 8 + (at - 8) ≡ at = omega arith in
@@ -171,11 +174,24 @@ rest-left x k ss at m z w f eight four same em small kind heads e late =
     refusal (refused g) q = ap refused (inside q)
     refusal (found s) q = absurd (refused-not (sym q))
 
--- What is known of a section z of kind k that has w after it in the longer draft: its kind by its id, and that its head's
--- tests pass where the longer one's do.
-abbrev Heads : Bool → List Section → ℕ → List ℕ → List ℕ → Kind → Type 0
-Heads x ss m z w k =
+-- The tests of a section that has subsections look at its own fields.
+head-inner : (x : Bool) (k : Kind) (seen repeated : Bool) (r : List ℕ) (n : ℕ) → holdsSubs k ≡ true → least (layout k) ≡ n
+    → Inner n (sectionChecks x k seen repeated r)
+head-inner x k seen repeated r n hs e =
+    let f = inner-low (least (layout k)) (take 4 (sectionChecks x k seen repeated r))
+    (every-kind (λ j. low (least (layout j)) (take 4 (sectionChecks x j seen repeated r))) refl k) in
+    let fields = subst (λ (n : ℕ). Inner n (fieldChecks x k r)) (fixed-made k r hs) (fields-inner x k r) in
+    let id = located (partSlots k r) (check 0 9 (not (sameKind rule k && repeated)) ∷ []) in
+    let last = inner-low (least (layout k)) id (every-kind (λ j. low (least (layout j)) (located (partSlots j r) (check 0 9 (not (sameKind rule k && repeated)) ∷ []))) refl k) in
+    subst (λ (m : ℕ). Inner m (sectionChecks x k seen repeated r)) e
+    (f .0, (f .1 .0, (f .1 .1 .0, (f .1 .1 .1 .0, all-join (λ (c : Test). c .holds ≡ false → c .offset < least (layout k)) (fieldChecks x k r) id fields last))))
+
+-- What is known of a section z of kind k that has w after it in the longer draft: its kind by its id, that its head's tests
+-- look at its first n bytes, and that they pass where the longer one's do.
+abbrev Heads : Bool → List Section → ℕ → ℕ → List ℕ → List ℕ → Kind → Type 0
+Heads x ss m n z w k =
     (sectionKind (idOf z) ≡ some k)
+    × Inner n (sectionChecks x k (kindBefore k ss) (ruleBefore (partIn k (restate 0 m z ++ w)) ss) (restate 0 m z ++ w))
     × (Hold (sectionChecks x k (kindBefore k ss) (ruleBefore (partIn k (restate 0 m z ++ w)) ss) (restate 0 m z ++ w))
     → Hold (sectionChecks x k (kindBefore k ss) (ruleBefore (partIn k z) ss) z))
 
@@ -185,25 +201,25 @@ holderKind i = elim (eqb i 0x12) [ true ↦ rule | false ↦ information ]
 
 -- of which this is known.
 holder : (x : Bool) (ss : List Section) (i m : ℕ) (z w : List ℕ) → holdsSubsections i ≡ true → idOf z ≡ i → fixedFields i ≤ length z → stated z ≡ length z
-    → Heads x ss m z w (holderKind i)
+    → Heads x ss m (fixedFields i) z w (holderKind i)
 holder x ss i m z w hs id l e = go (eqb i 0x12) refl
   where
-    go : (b : Bool) → eqb i 0x12 ≡ b → Heads x ss m z w (elim b as (λ v. Kind) [ true ↦ rule | false ↦ information ])
+    go : (b : Bool) → eqb i 0x12 ≡ b → Heads x ss m (fixedFields i) z w (elim b as (λ v. Kind) [ true ↦ rule | false ↦ information ])
     go true q =
         let n = eqb-true i 0x12 q in
         let k = fixed-rule n in
-        (ap sectionKind (id ∙ n), rule-head x (kindBefore rule ss) ss m z w (omega arith) e)
+        (ap sectionKind (id ∙ n), head-inner x rule (kindBefore rule ss) (ruleBefore (partIn rule (restate 0 m z ++ w)) ss) (restate 0 m z ++ w) (fixedFields i) refl k, rule-head x (kindBefore rule ss) ss m z w (omega arith) e)
     go false q =
         let n = eqb-true i 0x14 (sym (ap (λ (v : Bool). v || eqb i 0x14) q) ∙ hs) in
         let k : 10 ≡ fixedFields i = fixed-other (λ (y : i ≡ 18). omega arith) in
-        (ap sectionKind (id ∙ n), information-head x (kindBefore information ss) ss m z w (omega arith) e)
+        (ap sectionKind (id ∙ n), head-inner x information (kindBefore information ss) (ruleBefore (partIn information (restate 0 m z ++ w)) ss) (restate 0 m z ++ w) (fixedFields i) refl k, information-head x (kindBefore information ss) ss m z w (omega arith) e)
 
 -- ---- the draft
 
 -- What is left of the draft's reading is its last section, read alone.
 last-left : (d w : List ℕ) (o i : ℕ) (f : Fault) → Bytes d → Bytes w → Hold (headerChecks false d) → stated d + length w ≤ 3500
     → LastAt (take (stated d) d) 8 o → idOf (drop o d) ≡ i → holdsSubsections i ≡ true → o + fixedFields i ≤ stated d
-    → reading false (grown d o w) ≡ refused f → o < f .part
+    → reading false (grown d o w) ≡ refused f → o + fixedFields i ≤ f .place
     → (ss : List Section) × (reading false d ≡ andThen (moved (o - 8) (sectionsFrom false (external (idOf d)) [] 8 (drop o (take (stated d) d)))) (λ ts. found (ss ++ ts)))
 unfolding reading
 last-left d w o i f b c h most la id hs fx e late =
@@ -254,7 +270,7 @@ last-left d w o i f b c h most la id hs fx e late =
     (all-join (λ (y : ℕ). y < 256) (restate 0 m z) w (restate-bytes 0 m z (bytes-drop o D bD)) c) in
     let r = sections-front x Y t [] 8 by (omega arith) (subst (Late (8 + length (passed t))) (sym from) (omega arith)) in
     let hold = holder x (r .0) i m z w hs (v .id ∙ id) (omega arith) states in
-    let rest = rest-left x (holderKind i) (r .0) (8 + length (passed t)) m z w f (omega arith) four states (omega arith) (omega arith) (hold .0) (hold .1)
+    let rest = rest-left x (holderKind i) (r .0) (8 + length (passed t)) m (fixedFields i) z w f (omega arith) four states (omega arith) (omega arith) (hold .0) (hold .1) (hold .2)
     (sym (r .1 Y) ∙ from) (omega arith) in (
       r .0,
       tests-lead 0 (headerChecks false d) _ h
@@ -264,11 +280,11 @@ last-left d w o i f b c h most la id hs fx e late =
           ∙ rest
           ∙ ap (λ (j : ℕ). andThen (moved (j - 8) (sectionsFrom false x [] 8 z)) (λ ts. found (r .0 ++ ts))) place,
     ))
-    (tests-late 0 (headerChecks false g) _ f e)
+    (tests-late 0 8 (headerChecks false g) _ f (header-inner false g) e)
 
 -- ---- what the call finds
 
-module _ (d w : List ℕ) (o : ℕ) (b : Bytes d) (c : Bytes w) (l : LastOpen d o) where
+module _ (d w : List ℕ) (o first : ℕ) (b : Bytes d) (c : Bytes w) (l : LastOpen d o first) where
   -- The draft after a refusal, as it was, and its bytes.
   same-bytes : {number at n : ℕ} {new : List ℕ} → Refused number at ≡ writeAnswer (appended d o w) → n ≡ stated d → new ≡ draftAfter (appended d o w) d
       → take n new ≡ take (stated d) d
@@ -284,18 +300,21 @@ module _ (d w : List ℕ) (o : ℕ) (b : Bytes d) (c : Bytes w) (l : LastOpen d 
       let ld = length-take-le (stated d) d (k .within) in
       let le = ap length (same-bytes a en s) in
       let f = l .fixed in
+      let g = l .ends in
       let m = k .most in
       (l .last .front, omega arith, omega arith)
 
-  -- Where the refusal comes after the section's head, what is left of the draft's reading is that section, read alone.
-  pub left : {number at n : ℕ} {new : List ℕ} → Refused number at ≡ writeAnswer (appended d o w) → (number ≡ 23 → ⊥) → o < at → n ≡ stated d
+  -- Where the refusal comes after the section's own fields, what is left of the draft's reading is that section, read alone.
+  pub left : {number at n : ℕ} {new : List ℕ} → Refused number at ≡ writeAnswer (appended d o w) → (number ≡ 23 → ⊥) → first ≤ at → n ≡ stated d
       → new ≡ draftAfter (appended d o w) d
       → (ss : List Section)
       × (reading false d ≡ andThen (moved (o - 8) (sectionsFrom false (external (idOf (take n new))) [] 8 (drop o (take n new)))) (λ ts. found (ss ++ ts)))
   left {number} {at} {n} {new} a other late en s =
       let f = appended-refused d o w a other in
       let place = f .1 .1 .1 in
-      let r = last-left d w o (l .id) (f .1 .0) b c (l .header) (f .0) (l .last) (l .there) (l .holds) (l .fixed) (f .1 .1 .0) (omega arith) in
+      let ends = l .ends in
+      let fixed = l .fixed in
+      let r = last-left d w o (l .id) (f .1 .0) b c (l .header) (f .0) (l .last) (l .there) (l .holds) (omega arith) (f .1 .1 .0) (omega arith) in
       let k = lengths false d (l .header) in
       let least = k .least in
       let same = same-bytes a en s in

@@ -6,23 +6,23 @@ use mathlib.Core.Option.{Option, none, some}
 use Prim.Native.Nat.{ℕ, zero, suc, _+_, _-_, _≤_}
 use native.Mathlib.Omega.{arith}
 use lib.Dec.{leb}
-use lib.ListN.{length, take, drop, length-drop}
+use lib.ListN.{length, take, drop, replicate, length-drop}
 use lib.Seq.{take-all, drop-drop}
 use Rattle.format.specs.Bytes.{number, bytesAt}
 use Rattle.format.specs.Parts.{Kind, tokenParameters, sameKind, Part, size}
-use Rattle.format.specs.Rules.{Check, Section, has, maskCovers, hasRequired}
-use Rattle.format.specs.Reading.{fault, Outcome, refused, found, need, andThen, tested, stated, madeLength, partIn}
+use Rattle.format.specs.Rules.{Section, has, maskCovers, hasRequired}
+use Rattle.format.specs.Reading.{fault, Outcome, refused, found, need, andThen, Test, tested, stated, madeLength, partIn}
 use Rattle.added_subsections.specs.LastSection.{moved}
-use Rattle.format.specs.Reading.{subsectionKind, subsectionChecks, subsection, subsections, placeOf, afterSubsections, sectionRest, sections, rowCount, asAnswer}
+use Rattle.format.specs.Reading.{subsectionKind, subsectionChecks, subsection, subsections, placeOf, maskOffset, afterSubsections, sectionRest, sections, rowCount, asAnswer}
 use Rattle.format.specs.declared.Answer.the-variants.{Accepted, Refused}
 use Rattle.format.proofs.Turns.{sectionsFrom}
 use Rattle.format.proofs.Numbering.{Early, Comes, Anything, sections-come}
 
-need-moved : {A : Type 0} (j : ℕ) (b : Bool) (n p i : ℕ) (rest : Outcome A) {p′ : ℕ} {rest′ : Outcome A} → p′ ≡ p + j → rest′ ≡ moved j rest
-    → need b (fault n p′ i) rest′ ≡ moved j (need b (fault n p i) rest)
+need-moved : {A : Type 0} (j : ℕ) (b : Bool) (n p i : ℕ) (rest : Outcome A) {p′ i′ : ℕ} {rest′ : Outcome A} → p′ ≡ p + j → i′ ≡ i + j
+    → rest′ ≡ moved j rest → need b (fault n p′ i′) rest′ ≡ moved j (need b (fault n p i) rest)
 unfolding need
-need-moved j true n p i rest e r = r
-need-moved j false n p i rest e r = ap (λ (q : ℕ). refused (fault n q i)) e
+need-moved j true n p i rest e k r = r
+need-moved j false n p i rest e k r = ap₂ (λ (q o : ℕ). refused (fault n q o)) e k
 
 then-moved : {A B : Type 0} (j : ℕ) (o : Outcome A) {o′ : Outcome A} (f g : A → Outcome B) → o′ ≡ moved j o → ((a : A) → f a ≡ moved j (g a))
     → andThen o′ f ≡ moved j (andThen o g)
@@ -30,21 +30,21 @@ unfolding andThen
 then-moved j (refused h) f g e k = ap (λ y. andThen y f) e
 then-moved j (found a) f g e k = ap (λ y. andThen y f) e ∙ k a
 
-tests-moved : {A : Type 0} (j at : ℕ) (cs : List Check) (rest : Outcome A) {rest′ : Outcome A} → rest′ ≡ moved j rest → tested (at + j) cs rest′ ≡ moved j (tested at cs rest)
+tests-moved : {A : Type 0} (j at : ℕ) (cs : List Test) (rest : Outcome A) {rest′ : Outcome A} → rest′ ≡ moved j rest → tested (at + j) cs rest′ ≡ moved j (tested at cs rest)
 unfolding tested
 tests-moved j at [] rest e = e
-tests-moved j at (c ∷ cs) rest e = need-moved j (c .holds) (c .refusal) at (c .field) (tested at cs rest) refl (tests-moved j at cs rest e)
+tests-moved j at (c ∷ cs) rest e = need-moved j (c .holds) (c .refusal) at (at + c .offset) (tested at cs rest) refl (omega arith) (tests-moved j at cs rest e)
 
 -- ---- subsections
 
 subsection-moved : (j : ℕ) (x : Bool) (o : Kind) (before : List Part) (at n : ℕ) (r : List ℕ)
     → subsection x o before (at + j) n r ≡ moved j (subsection x o before at n r)
 unfolding subsection
-subsection-moved j x o before at n r = need-moved j (leb 4 n) 12 at 0 _ refl (go (subsectionKind o (number (bytesAt r 0 2))))
+subsection-moved j x o before at n r = need-moved j (leb 4 n) 12 at at _ refl refl (go (subsectionKind o (number (bytesAt r 0 2))))
   where
     go : (m : Option Kind)
-        → elim m as (λ k. Outcome Part) [ none ↦ refused (fault 13 (at + j) 0) | some k ↦ tested (at + j) (subsectionChecks x k (has k before) n r) (found (partIn k r)) ]
-        ≡ moved {A = Part} j (elim m as (λ k. Outcome Part) [ none ↦ refused (fault 13 at 0) | some k ↦ tested at (subsectionChecks x k (has k before) n r) (found (partIn k r)) ])
+        → elim m as (λ k. Outcome Part) [ none ↦ refused (fault 13 (at + j) (at + j)) | some k ↦ tested (at + j) (subsectionChecks x k (has k before) n r) (found (partIn k r)) ]
+        ≡ moved {A = Part} j (elim m as (λ k. Outcome Part) [ none ↦ refused (fault 13 at at) | some k ↦ tested at (subsectionChecks x k (has k before) n r) (found (partIn k r)) ])
     go none = refl
     go (some k) = tests-moved j at (subsectionChecks x k (has k before) n r) (found (partIn k r)) refl
 
@@ -79,8 +79,10 @@ rest-moved j full x k at r =
     then-moved j (subsections (suc (stated r)) x k [] (at + n) (stated r - n) (drop n r)) _ _
     (ap (λ (q : ℕ). subsections (suc (stated r)) x k [] q (stated r - n) (drop n r)) e ∙ subsections-moved (suc (stated r)) j x k [] (at + n) (stated r - n) (drop n r))
     (λ us.
-    need-moved j (maskCovers us) 18 (placeOf tokenParameters (at + n) us) 5 _ (ap (λ (q : ℕ). placeOf tokenParameters q us) e ∙ place-moved tokenParameters (at + n) j us)
-    (need-moved j (not full || hasRequired (record { head = partIn k r; subs = us })) 20 at 0 (found (record { head = partIn k r; subs = us })) refl refl))
+    let p : placeOf tokenParameters (at + j + n) us ≡ placeOf tokenParameters (at + n) us + j =
+    ap (λ (q : ℕ). placeOf tokenParameters q us) e ∙ place-moved tokenParameters (at + n) j us in
+    need-moved j (maskCovers us) 18 (placeOf tokenParameters (at + n) us) (placeOf tokenParameters (at + n) us + maskOffset) _ p (omega arith)
+    (need-moved j (not full || hasRequired (record { head = partIn k r; subs = us })) 20 at at (found (record { head = partIn k r; subs = us })) refl refl refl))
 
 -- ---- its answer
 
@@ -88,7 +90,7 @@ pub moved-refused : {n p : ℕ} (j : ℕ) (o : Outcome (List Section)) → Refus
 unfolding asAnswer
 moved-refused {n} {p} j (refused f) e =
     let a : n ≡ f .number = cc in
-    let b : p ≡ f .part = cc in
+    let b : p ≡ f .place = cc in
     ap₂ (λ (x y : ℕ). Refused x (y + j)) a b
 moved-refused j (found ss) e = absurd (let y : _≡_ {A = ℕ} 0 1 = cc in omega arith)
 
@@ -100,10 +102,11 @@ moved-found j (found ss) e = e
 -- Sections are refused within their bytes.
 pub refused-within : {n p : ℕ} (x : Bool) (r : List ℕ) → Refused n p ≡ asAnswer rowCount (sectionsFrom false x [] 8 r) → p ≤ 8 + length r
 unfolding sectionsFrom asAnswer
-refused-within {n} {p} x r e = go (sections (suc (length r)) false x [] 8 r) (sections-come (8 + length r) (suc (length r)) false x [] 8 r (omega arith) (omega arith)) e
+refused-within {n} {p} x r e =
+    go (sections (suc (length r)) false x [] 8 r) (sections-come (replicate 8 0 ++ r) (8 + length r) (suc (length r)) false x [] 8 r refl (omega arith) (omega arith)) e
   where
-    go : (o : Outcome (List Section)) → Comes (Early false (8 + length r)) Anything o → Refused n p ≡ asAnswer rowCount o → p ≤ 8 + length r
-    go (refused f) c q = let a : p ≡ f .part = cc in let w = c .listed .within in omega arith
+    go : (o : Outcome (List Section)) → Comes (Early false (replicate 8 0 ++ r) (8 + length r)) Anything o → Refused n p ≡ asAnswer rowCount o → p ≤ 8 + length r
+    go (refused f) c q = let a : p ≡ f .place = cc in let w = c .listed .within in omega arith
     go (found ss) c q = absurd (let y : _≡_ {A = ℕ} 0 1 = cc in omega arith)
 
 -- The bytes from eight before a place on are, after eight of them, those from the place on.

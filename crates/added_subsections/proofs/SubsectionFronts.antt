@@ -24,7 +24,8 @@ use Rattle.format.proofs.Changes.{restate, restate-behind, relength}
 use Rattle.format.proofs.Numbers.{bytes-take, bytes-drop}
 use Rattle.contents.proofs.Headers.{lengths}
 use Rattle.draft_parts.specs.Tiling.{Reads, TiledTo, Tiled, LastAt}
-use Rattle.draft_parts.proofs.Tiling.{States, laid, passed, passed-then, cut-at, only-one, stated-front}
+use Rattle.draft_parts.proofs.Tiling.{States, laid, passed, passed-then, cut-at, only-one}
+use Rattle.format.proofs.Numbering.{stated-front}
 use Rattle.draft_parts.proofs.LaidSections.{sectionBytes, subBytes, sections-laid, subs-laid, subs-state, section-id}
 use Rattle.longer_drafts.specs.Appended.{grown, Standing}
 use Rattle.longer_drafts.proofs.Longer.{restate-long, restate-front, grown-long}

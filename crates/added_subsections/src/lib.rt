@@ -42,7 +42,7 @@ fn last_alone(s: &[u8], place: usize) -> Answer
     ensures { λ r. ⌜ r ≡ asAnswer rowCount (moved (place - 8) (sectionsFrom false (external (idOf (now (s .entry)))) [] 8 (drop place (now (s .entry))))) ⌝ }
 {
     let front = place - 8;
-    let a = sections_of(&s[front..], s[0] == 30, false);
+    let a = sections_of(&s[front..], s[0] == 0x1E, false);
     match a {
         Answer::Refused(number, at) => Answer::Refused(number, at + front as u32),
         Answer::Accepted(rows) => Answer::Accepted(rows),
@@ -50,9 +50,9 @@ fn last_alone(s: &[u8], place: usize) -> Answer
 }
 
 // Puts a subsection after the draft, whose own fault comes before any other refusal. Where the longer draft is refused after
-// the head of its last section, the draft reads up to that section, and only this one is read again.
-fn append_subsection(draft: &mut [u8], place: usize, part: &mut [u8]) -> Answer
-    requires { ⌜ LastOpen (now draft) place ⌝ }
+// the own fields of its last section, which end at first, the draft reads up to that section, and only this one is read again.
+fn append_subsection(draft: &mut [u8], place: usize, first: usize, part: &mut [u8]) -> Answer
+    requires { ⌜ LastOpen (now draft) place first ⌝ }
     ensures answer { λ r. ⌜ r ≡ writeAnswer (ownFirst (now (draft .entry)) (appended (now (draft .entry)) place (now (part .entry)))) ⌝ }
     ensures draft { λ _. ⌜ now (draft .exit) ≡ draftAfter (ownFirst (now (draft .entry)) (appended (now (draft .entry)) place (now (part .entry)))) (now (draft .entry)) ⌝ }
 {
@@ -63,7 +63,7 @@ fn append_subsection(draft: &mut [u8], place: usize, part: &mut [u8]) -> Answer
             if number == 23 {
                 return own_fault_or(draft, number, at);
             }
-            if at as usize <= place {
+            if (at as usize) < first {
                 return own_fault_or(draft, number, at);
             }
             let own = last_alone(&draft[..n], place);
@@ -95,7 +95,7 @@ fn add_to_section(draft: &mut [u8], id: u8, place: usize, part: &mut [u8]) -> An
     if let Last::Broken = last {
         return read_draft(draft);
     }
-    append_subsection(draft, place, part)
+    append_subsection(draft, place, first, part)
 }
 
 // Adds the bytes of a subsection to the last section, which is to have the given id.

@@ -1,43 +1,36 @@
 -- The header's tests, and the answer after them.
-use mathlib.Core.Path.{_≡_, refl, sym, ap, ap₂, _∙_, subst}
-use mathlib.Core.Bool.{Bool, true, false, _&&_, _||_, or-true, and-false}
+use mathlib.Core.Path.{_≡_, refl, sym, ap, _∙_}
+use mathlib.Core.Bool.{Bool, true, false, _&&_, and-false}
 use mathlib.Core.List.{List, []}
-use Prim.Native.Nat.{ℕ, suc, _<_, _≤_}
+use Prim.Native.Nat.{ℕ, suc, _+_, _/_, _%_, _<_, _≤_}
 use native.Mathlib.Omega.{arith}
 use lib.Dec.{eqb, leb}
 use lib.ListN.{length, getD, take, drop, length-drop}
 use lib.Seq.{take-all, length-take-le}
 use borrow.Author.Tests.{eq-eqb, ne-eqb, eqb-true, eqb-false, le-leb, lt-leb, leb-true}
 use Rattle.format.specs.Parts.{external, knownId}
-use Rattle.format.specs.Reading.{tested, asAnswer, idOf, stated, lengthAllowed, headerChecks, sections, rowCount, reading, answer}
+use Rattle.format.specs.Reading.{asAnswer, idOf, stated, lengthAllowed, headerChecks, sections, rowCount, reading, answer}
 use Rattle.format.specs.declared.Answer.the-variants.{Refused}
 use Rattle.format.proofs.Finding.{and-split}
 use Rattle.format.proofs.Tests.{Hold}
 use Rattle.format.proofs.Turns.{sections-from}
 use Rattle.sections.specs.Refusals.{firstRefusal}
-use Rattle.sections.proofs.Heads.{all-hold}
-use Rattle.sections.proofs.Laws.{byte-number, first-not}
-use Rattle.sections.proofs.Subs.{RefusedAs, refused-told, stops, leads}
+use Rattle.sections.proofs.Laws.{all-hold, byte-number}
+use Rattle.sections.proofs.Subs.{refused-told, stops, leads}
 use Rattle.contents.specs.Progress.{sectionsAnswer}
 
 -- ---- the id
 
 -- The two known ids stand next to each other.
 pub id-known : (i : ℕ) → 30 ≤ i → i < 32 → true ≡ knownId i
-id-known i lo hi = sym (go (eqb i 0x1E) refl)
+id-known i lo hi = go (eqb i 0x1E) refl
   where
-    go : (b : Bool) → eqb i 0x1E ≡ b → (eqb i 0x1E || eqb i 0x1F) ≡ true
-    go true e = ap (λ (b : Bool). b || eqb i 0x1F) e
-    go false e =
-        let d : i ≡ 0x1E → ⊥ = eqb-false i 0x1E e in
-        let q : i ≡ 0x1F = last d in
-        ap (λ (b : Bool). eqb i 0x1E || b) (eq-eqb i 0x1F q) ∙ or-true (eqb i 0x1E)
-      where
-        last : (i ≡ 0x1E → ⊥) → i ≡ 0x1F
-        last d = omega arith
+    go : (b : Bool) → eqb i 0x1E ≡ b → true ≡ knownId i
+    go true e = rw e
+    go false e = let d : i ≡ 0x1E → ⊥ = eqb-false i 0x1E e in rw (e, eq-eqb i 0x1F (omega arith))
 
 unknown : (i : ℕ) → (i ≡ 30 → ⊥) → (i ≡ 31 → ⊥) → false ≡ knownId i
-unknown i a b = sym (ap (λ (x : Bool). x || eqb i 0x1F) (ne-eqb i 0x1E a) ∙ ne-eqb i 0x1F b)
+unknown i a b = rw (ne-eqb i 0x1E a, ne-eqb i 0x1F b)
 
 pub id-below : (i : ℕ) → i < 30 → false ≡ knownId i
 id-below i h = unknown i (λ e. omega arith) (λ e. omega arith)
@@ -51,43 +44,30 @@ id-first s h = sym (byte-number s 0 h)
 
 -- ---- the length
 
--- The second of two tests fails.
-not-right : (a : Bool) {b : Bool} → b ≡ false → (a && b) ≡ false
-not-right a e = ap (λ (x : Bool). a && x) e ∙ and-false a
+-- A token as long as it states is at most 3500 bytes long where it states no more.
+token-length : (s : List ℕ) → lengthAllowed true s ≡ (leb (stated s) 3500 && eqb (stated s) (length s))
+token-length s = go (eqb (stated s) (length s)) refl
+  where
+    go : (b : Bool) → eqb (stated s) (length s) ≡ b → (leb (length s) 3500 && eqb (stated s) (length s)) ≡ (leb (stated s) 3500 && eqb (stated s) (length s))
+    go true e = ap (λ (n : ℕ). leb n 3500 && eqb (stated s) (length s)) (sym (eqb-true (stated s) (length s) e))
+    go false e = rw (e, and-false (leb (length s) 3500), and-false (leb (stated s) 3500))
 
 -- A length above 3500 is stated of no token and no draft.
 pub length-above : {n : ℕ} (full : Bool) (s : List ℕ) → n ≡ stated s → 3500 < n → false ≡ lengthAllowed full s
-length-above true s q h = sym (go (leb (length s) 3500) refl)
-  where
-    go : (b : Bool) → leb (length s) 3500 ≡ b → (leb (length s) 3500 && eqb (stated s) (length s)) ≡ false
-    go true e = let l = leb-true (length s) 3500 e in not-right (leb (length s) 3500) (ne-eqb (stated s) (length s) (λ w. omega arith))
-    go false e = first-not _ e
-length-above false s q h =
-    sym (first-not (leb (stated s) (length s)) (not-right (leb 8 (stated s)) (lt-leb (stated s) 3500 (omega arith))))
+length-above true s q h = rw (token-length s, lt-leb (stated s) 3500 (omega arith))
+length-above false s q h = rw (lt-leb (stated s) 3500 (omega arith), and-false (leb 8 (stated s)))
 
 -- One that is not above 3500 is a token's where it is the length of its buffer.
 pub length-full : {n : ℕ} {full : Bool} (s : List ℕ) → n ≡ stated s → n ≤ 3500 → full ≡ true → eqb n (length s) ≡ lengthAllowed full s
-length-full {n} s q h e =
-    ap (λ (m : ℕ). eqb m (length s)) q ∙ sym (go (eqb (stated s) (length s)) refl) ∙ ap (λ (b : Bool). lengthAllowed b s) (sym e)
-  where
-    go : (b : Bool) → eqb (stated s) (length s) ≡ b → (leb (length s) 3500 && eqb (stated s) (length s)) ≡ eqb (stated s) (length s)
-    go true w =
-        let l = eqb-true (stated s) (length s) w in
-        ap (λ (b : Bool). b && eqb (stated s) (length s)) (le-leb (length s) 3500 (omega arith))
-    go false w = not-right (leb (length s) 3500) w ∙ sym w
+length-full s q h e = rw (q, e, token-length s, le-leb (stated s) 3500 (omega arith))
 
 -- It is no draft's where it is under 8.
 pub length-below : {n : ℕ} {full : Bool} (s : List ℕ) → n ≡ stated s → n < 8 → full ≡ false → false ≡ lengthAllowed full s
-length-below s q h e =
-    sym (first-not (leb (stated s) (length s)) (first-not (leb (stated s) 3500) (lt-leb 8 (stated s) (omega arith))))
-    ∙ ap (λ (b : Bool). lengthAllowed b s) (sym e)
+length-below s q h e = rw (e, lt-leb 8 (stated s) (omega arith))
 
 -- And from 8 on where so many bytes are there.
 pub length-draft : {n : ℕ} {full : Bool} (s : List ℕ) → n ≡ stated s → n ≤ 3500 → 8 ≤ n → full ≡ false → leb n (length s) ≡ lengthAllowed full s
-length-draft s q h l e =
-    ap (λ (m : ℕ). leb m (length s)) q
-    ∙ sym (ap₂ (λ (a b : Bool). (a && b) && leb (stated s) (length s)) (le-leb 8 (stated s) (omega arith)) (le-leb (stated s) 3500 (omega arith)))
-    ∙ ap (λ (b : Bool). lengthAllowed b s) (sym e)
+length-draft s q h l e = rw (q, e, le-leb 8 (stated s) (omega arith), le-leb (stated s) 3500 (omega arith))
 
 -- What passed tests say of the lengths.
 pub record Lengths (s : List ℕ) : Type 0 where
@@ -116,13 +96,12 @@ lengths false s c =
 -- ---- the answer
 
 module _ {h : ℕ} (full : Bool) (s : List ℕ) (e : h ≡ firstRefusal (headerChecks full s)) where
-  -- A header with a number is refused with it.
-  pub header-stops : (h ≡ 0 → ⊥) → Refused h 0 ≡ asAnswer rowCount (reading full s)
+  -- A header with a number is refused as it says.
+  pub header-stops : (h ≡ 0 → ⊥) → Refused (h % 256) (0 + h / 256) ≡ asAnswer rowCount (reading full s)
   unfolding reading
   header-stops n =
       refused-told rowCount
-      (subst (λ (y : ℕ). RefusedAs (tested 0 (headerChecks full s) (sections (suc (stated s)) full (external (idOf s)) [] 8 (drop 8 (take (stated s) s)))) y 0)
-      (sym e) (stops 0 _ _ (λ q. n (e ∙ q))))
+      (stops 0 (headerChecks full s) (sections (suc (stated s)) full (external (idOf s)) [] 8 (drop 8 (take (stated s) s))) refl e n)
 
   -- What a header without a number says of the lengths.
   pub header-lengths : h ≡ 0 → Lengths s

@@ -7,13 +7,21 @@ ghost use Rattle.format.specs.Reading.{lengthAllowed, headerChecks};
 ghost use Rattle.sections.specs.Refusals.{firstRefusal};
 use fields::four;
 use fields::two;
+use format::LONGEST;
+
+// The refusals of the header's fields with their offsets (lib.rt of sections).
+const VERSION: u32 = 3 + 256 * 1;
+
+const LENGTH: u32 = 4 + 256 * 2;
+
+const RESERVED: u32 = 5 + 256 * 4;
 
 // External or internal.
 fn known_id(id: u8) -> bool
     ensures { λ r. ⌜ r ≡ knownId id ⌝ }
 {
     match id {
-        30 | 31 => true,
+        0x1E | 0x1F => true,
         _ => false,
     }
 }
@@ -24,7 +32,7 @@ fn length_allowed(s: &[u8], full: bool) -> bool
     ensures { λ r. ⌜ r ≡ lengthAllowed full (now (s .entry)) ⌝ }
 {
     let n = two(s, 2);
-    if 3500 < n {
+    if LONGEST < n {
         return false;
     }
     if full {
@@ -36,7 +44,7 @@ fn length_allowed(s: &[u8], full: bool) -> bool
     n <= s.len()
 }
 
-// The number of the first refusal of the header, of a token (full) or of a draft; 0 where there is none.
+// The first refusal of the header, of a token (full) or of a draft; 0 where there is none.
 pub fn header(s: &[u8], full: bool) -> u32
     ensures { λ r. ⌜ r ≡ firstRefusal (headerChecks full (now (s .entry))) ⌝ }
 {
@@ -47,13 +55,13 @@ pub fn header(s: &[u8], full: bool) -> u32
         return 2;
     }
     if s[1] != 0 {
-        return 3;
+        return VERSION;
     }
     if !length_allowed(s, full) {
-        return 4;
+        return LENGTH;
     }
     if four(s, 4) != 0 {
-        return 5;
+        return RESERVED;
     }
     0
 }

@@ -14,28 +14,29 @@ use sections::information::information_at;
 use sections::plain::application_data_at;
 use sections::plain::name_at;
 use sections::public_key::public_key_at;
+use sections::refused;
 
-// The answer of a section at p without subsections, from the number of its refusal.
-fn alone(refusal: u32, p: usize) -> Answer
+// The answer of a section at p without subsections, from what its check function returned.
+fn alone(found: u32, p: usize) -> Answer
     requires { ⌜ p ≤ 3500 ⌝ }
-    ensures { λ r. ⌜ r ≡ unless refusal p (Accepted 1) ⌝ }
+    ensures { λ r. ⌜ r ≡ unless found p (Accepted 1) ⌝ }
 {
-    if refusal != 0 {
-        return Answer::Refused(refusal, p as u32);
+    if found != 0 {
+        return refused(found, p);
     }
     Answer::Accepted(1)
 }
 
 // The section at p, which is no rule and of which four bytes are there; seen says, at its id, whether its kind stands before.
 pub(crate) fn other_at(s: &[u8], p: usize, external: bool, full: bool, seen: &[bool; 22]) -> Answer
-    requires { ⌜ (p + 4 ≤ length (now s)) × (length (now s) ≤ 3500) × (number (bytesAt (now s) p 1) ≡ 18 → ⊥) ⌝ }
+    requires { ⌜ (p + 4 ≤ length (now s)) × (length (now s) ≤ 3500) × (number (bytesAt (now s) p 1) ≡ 0x12 → ⊥) ⌝ }
     ensures { λ r. ⌜ ((before : List Section) → Marked (now (seen .entry)) before → r ≡ asAnswer sectionRows (section full external before p (drop p (now (s .entry))))) ⌝ }
 {
     match s[p] {
-        17 => alone(public_key_at(s, p, seen[17]), p),
-        19 => alone(name_at(s, p, seen[19]), p),
-        20 => information_at(s, p, external, full, seen[20]),
-        21 => alone(application_data_at(s, p, seen[21]), p),
+        0x11 => alone(public_key_at(s, p, seen[0x11]), p),
+        0x13 => alone(name_at(s, p, seen[0x13]), p),
+        0x14 => information_at(s, p, external, full, seen[0x14]),
+        0x15 => alone(application_data_at(s, p, seen[0x15]), p),
         _ => Answer::Refused(7, p as u32),
     }
 }

@@ -15,6 +15,7 @@ use fields::eight;
 use fields::page::page;
 use fields::two;
 use format::Answer;
+use rule_ids::ID_PLACES;
 use rule_ids::put;
 use rules::rule_at;
 
@@ -25,17 +26,17 @@ pub(crate) enum Run {
 }
 
 // Puts the Rule ID of the section at q into the set, if it is a rule.
-fn note(s: &[u8], ids: &mut [u64; 704], q: usize)
+fn note(s: &[u8], ids: &mut [u64; ID_PLACES], q: usize)
     requires { ⌜ Noting (now s) q (now ids) ⌝ }
     ensures { λ _. ⌜ ((before : List Section) (c : Section) → Stands (drop q (now (s .entry))) c → Held before q (now (ids .entry)) → Held (before ++ c ∷ []) (q + stated (drop q (now (s .entry)))) (now (ids .exit))) ⌝ }
 {
-    if s[q] == 18 {
+    if s[q] == 0x12 {
         let _seen = put(ids, eight(s, q + 4));
     }
 }
 
 // Puts the Rule IDs of the rules before p into the set, which is empty.
-fn note_before(s: &[u8], ids: &mut [u64; 704], p: usize)
+fn note_before(s: &[u8], ids: &mut [u64; ID_PLACES], p: usize)
     requires { ⌜ (length (now s) ≤ 3500) × (p ≤ length (now s)) × Held [] 8 (now ids) × ((before : List Section) × Ahead (now s) 8 before p) ⌝ }
     ensures { λ _. ⌜ ((before : List Section) → Ahead (now (s .entry)) 8 before p → Held before p (now (ids .exit))) ⌝ }
 {
@@ -48,11 +49,11 @@ fn note_before(s: &[u8], ids: &mut [u64; 704], p: usize)
 
 // The rules that follow each other from the rule at first on, after the rows so far.
 pub(crate) fn rules(s: &[u8], first: usize, rows: u32, full: bool) -> Run
-    requires { ⌜ (first + 4 ≤ length (now s)) × (length (now s) ≤ 3500) × (number (bytesAt (now s) first 1) ≡ 18) × SomeRead (now s) full first rows ⌝ }
+    requires { ⌜ (first + 4 ≤ length (now s)) × (length (now s) ≤ 3500) × (number (bytesAt (now s) first 1) ≡ 0x12) × SomeRead (now s) full first rows ⌝ }
     ensures { λ r. ⌜ ((x : Bool) (seen : List Bool) → SectionsRead (now (s .entry)) full x first rows seen → Ran (now (s .entry)) full x seen first r) ⌝ }
 {
     let characters = page();
-    let mut ids = [0u64; 704];
+    let mut ids = [0u64; ID_PLACES];
     note_before(s, &mut ids, first);
     let mut p = first;
     let mut n = rows;
@@ -60,7 +61,7 @@ pub(crate) fn rules(s: &[u8], first: usize, rows: u32, full: bool) -> Run
         if s.len() < p + 4 {
             return Run::Fault(6, p as u32);
         }
-        if s[p] != 18 {
+        if s[p] != 0x12 {
             return Run::Next(p, n);
         }
         let a = rule_at(s, &characters, &mut ids, p, full);

@@ -23,7 +23,7 @@ pub fn sections_of(s: &[u8], external: bool, full: bool) -> Answer
             return Answer::Refused(6, p as u32);
         }
         let id = s[p];
-        if id == 18 {
+        if id == 0x12 {
             let run = rules(s, p, rows, full);
             match run {
                 Run::Fault(f, at) => {
@@ -51,7 +51,7 @@ pub fn sections_of(s: &[u8], external: bool, full: bool) -> Answer
     if !full {
         return Answer::Accepted(rows);
     }
-    if seen[20] {
+    if seen[0x14] {
         return Answer::Accepted(rows);
     }
     Answer::Refused(20, p as u32)

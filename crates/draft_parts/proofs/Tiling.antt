@@ -6,21 +6,13 @@ use native.Mathlib.Nat.{add-zero}
 use native.Mathlib.Omega.{arith}
 use lib.ListN.{length, take, drop, drop-of-length-le, length-append, length-drop, take-append-drop, getD}
 use lib.Seq.{take-at, drop-at, length-take-le, drop-drop, getD-drop, take-all}
+use Rattle.format.proofs.Numbering.{stated-front}
 use Rattle.format.specs.Bytes.{All, number, bytesAt}
 use Rattle.format.specs.Reading.{stated, idOf}
 use Rattle.format.proofs.Numbers.{number-one}
 use Rattle.draft_parts.specs.Tiling.{TiledTo, here, next, Tiled, LastAt}
 
 -- ---- what a part states
-
--- Bytes after do not change what is stated.
-pub stated-front : (b y : List ℕ) → 4 ≤ length b → stated (b ++ y) ≡ stated b
-unfolding number bytesAt
-stated-front [] y h = absurd (omega arith)
-stated-front (p ∷ []) y h = absurd (omega arith)
-stated-front (p ∷ q ∷ []) y h = absurd (omega arith)
-stated-front (p ∷ q ∷ r ∷ []) y h = absurd (omega arith)
-stated-front (p ∷ q ∷ r ∷ s ∷ bs) y h = refl
 
 -- The length that the part at a place states, read in place.
 pub stated-at : (d : List ℕ) (o : ℕ) → number (bytesAt d (o + 2) 2) ≡ stated (drop o d)

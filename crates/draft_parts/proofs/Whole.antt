@@ -11,7 +11,7 @@ use Rattle.format.specs.Reading.{stated, headerChecks, rowCount}
 use Rattle.format.specs.declared.Answer.the-variants.{Accepted, Refused}
 use Rattle.format.proofs.Writing.{told-found}
 use Rattle.sections.specs.Refusals.{firstRefusal}
-use Rattle.sections.proofs.Heads.{all-hold}
+use Rattle.sections.proofs.Laws.{all-hold}
 use Rattle.contents.proofs.Headers.{lengths, header-stops}
 use Rattle.draft_parts.specs.Tiling.{Reads, LastOf, LastSection}
 use Rattle.draft_parts.specs.declared.Last.{Last}

@@ -53,7 +53,7 @@ unfit-kept : (d : List ℕ) → draftAfter (unfit d) d ≡ d
 unfolding unfit andThen
 unfit-kept d = go (reading false d)
   where
-    go : (o : Outcome (List Section)) → draftAfter (andThen o (λ ss. refused (fault 24 (stated d) 0))) d ≡ d
+    go : (o : Outcome (List Section)) → draftAfter (andThen o (λ ss. refused (fault 24 (stated d) (stated d)))) d ≡ d
     go (refused f) = refl
     go (found ss) = refl
 
@@ -62,7 +62,7 @@ pub unfit-added : {r : Answer} (k : Kind) (fs : Fields) (d : List ℕ) → fits 
     → (r ≡ writeAnswer (addition k fs d)) × (d ≡ draftAfter (addition k fs d) d)
 unfolding addition unfit
 unfit-added k fs d f e =
-    same-written d (sym (then-same (reading false d) _ _ (λ ss q. need-failed (fits [] (layout k) fs) (fault 24 (stated d) 0) _ f))) e
+    same-written d (sym (then-same (reading false d) _ _ (λ ss q. need-failed (fits [] (layout k) fs) (fault 24 (stated d) (stated d)) _ f))) e
     (sym (unfit-kept d))
 
 -- ---- the longer draft
@@ -76,11 +76,11 @@ made k fs w t e l =
 
 -- The same bytes after 23.
 same-appended : (d w g : List ℕ) (o n : ℕ) → length w ≡ n → grown d o w ≡ g
-    → need (leb (stated d + n) 3500 && leb (stated d + n) (length d)) (fault 23 (stated d) 0) (andThen (reading false g) (λ ts. found g))
+    → need (leb (stated d + n) 3500 && leb (stated d + n) (length d)) (fault 23 (stated d) (stated d)) (andThen (reading false g) (λ ts. found g))
     ≡ appended d o w
 unfolding appended
 same-appended d w g o n l e =
-    ap₂ (λ (m : ℕ) (y : List ℕ). need (leb (stated d + m) 3500 && leb (stated d + m) (length d)) (fault 23 (stated d) 0) (andThen (reading false y) (λ ts. found y))) (sym l) (sym e)
+    ap₂ (λ (m : ℕ) (y : List ℕ). need (leb (stated d + m) 3500 && leb (stated d + m) (length d)) (fault 23 (stated d) (stated d)) (andThen (reading false y) (λ ts. found y))) (sym l) (sym e)
 
 -- ---- a section
 
@@ -151,10 +151,10 @@ sub-grown d ts t p w b e s l m =
 -- 25 and what follows it, of the part and of its bytes.
 abbrev Same25 : List ℕ → List ℕ → Part → List Section → Type 0
 Same25 d w p ss =
-    need (joins 0 (partsOf ss ++ p ∷ [])) (fault 25 (stated d) 0)
-    (need (leb (stated d + size p) 3500 && leb (stated d + size p) (length d)) (fault 23 (stated d) 0)
+    need (joins 0 (partsOf ss ++ p ∷ [])) (fault 25 (stated d) (stated d))
+    (need (leb (stated d + size p) 3500 && leb (stated d + size p) (length d)) (fault 23 (stated d) (stated d))
     (andThen (reading false (longer d ss p)) (λ ts. found (longer d ss p))))
-    ≡ need (eqb (idOf (drop (lastPlace 0 8 ss) d)) (sectionId (p .kind))) (fault 25 (stated d) 0) (appended d (lastPlace 0 8 ss) w)
+    ≡ need (eqb (idOf (drop (lastPlace 0 8 ss) d)) (sectionId (p .kind))) (fault 25 (stated d) (stated d)) (appended d (lastPlace 0 8 ss) w)
 
 -- A token's id is above every section's.
 pub id-known : (i : ℕ) → knownId i ≡ true → 30 ≤ i
@@ -170,8 +170,8 @@ same-none d w p b e s =
     let r = reading-sound false d [] b e in
     let known = id-known (idOf d) (r .known) in
     let small = id-small (p .kind) in
-    need-failed (joins 0 (p ∷ [])) (fault 25 (stated d) 0) _ (sub-alone p s (sectionId-pos (p .kind)))
-    ∙ sym (need-failed (eqb (idOf d) (sectionId (p .kind))) (fault 25 (stated d) 0) _ (ne-eqb (idOf d) (sectionId (p .kind)) (λ q. omega arith)))
+    need-failed (joins 0 (p ∷ [])) (fault 25 (stated d) (stated d)) _ (sub-alone p s (sectionId-pos (p .kind)))
+    ∙ sym (need-failed (eqb (idOf d) (sectionId (p .kind))) (fault 25 (stated d) (stated d)) _ (ne-eqb (idOf d) (sectionId (p .kind)) (λ q. omega arith)))
 
 -- With a last section both ask for its id.
 same-last : (d w : List ℕ) (p : Part) (ts : List Section) (t : Section) → Bytes d → reading false d ≡ found (ts ++ t ∷ [])
@@ -184,12 +184,12 @@ same-last d w p ts t b e s l m =
     let o : lastPlace 0 8 ss ≡ sectionsEnd ts = last-behind 0 [] ts t (grouped false x ts (gs .0)) in
     let j = sub-joins-last false x ts t p (gs .1 .0) (flat-joins false x ss (r .good .each) 0) s in
     let there = stands-at d ts t [] b e .id-there in
-    subst (λ (q : ℕ). need (joins 0 (partsOf ss ++ p ∷ [])) (fault 25 (stated d) 0)
-    (need (leb (stated d + size p) 3500 && leb (stated d + size p) (length d)) (fault 23 (stated d) 0)
+    subst (λ (q : ℕ). need (joins 0 (partsOf ss ++ p ∷ [])) (fault 25 (stated d) (stated d))
+    (need (leb (stated d + size p) 3500 && leb (stated d + size p) (length d)) (fault 23 (stated d) (stated d))
     (andThen (reading false (longer d ss p)) (λ us. found (longer d ss p))))
-    ≡ need (eqb (idOf (drop q d)) (sectionId (p .kind))) (fault 25 (stated d) 0) (appended d q w))
+    ≡ need (eqb (idOf (drop q d)) (sectionId (p .kind))) (fault 25 (stated d) (stated d)) (appended d q w))
     (sym o)
-    (same-need (joins 0 (partsOf ss ++ p ∷ [])) (eqb (idOf (drop (sectionsEnd ts) d)) (sectionId (p .kind))) (fault 25 (stated d) 0) _ _
+    (same-need (joins 0 (partsOf ss ++ p ∷ [])) (eqb (idOf (drop (sectionsEnd ts) d)) (sectionId (p .kind))) (fault 25 (stated d) (stated d)) _ _
     (j ∙ ap (λ (i : ℕ). eqb i (sectionId (p .kind))) (sym there))
     (λ q. same-appended d w (longer d ss p) (sectionsEnd ts) (size p) l (sub-grown d ts t p w b e s l m)))
 

@@ -19,9 +19,9 @@ pub known : (x : Bool) (k : Kind) (ss : List Section) (at : ℕ) (r : List ℕ) 
     → section false x ss at r ≡ tested at (sectionChecks x k (kindBefore k ss) (ruleBefore (partIn k r) ss) r) (sectionRest false x k at r)
 unfolding section
 known x k ss at r h q =
-    need-passed (leb 4 (length r)) (fault 6 at 0) _ (le-leb 4 (length r) h)
+    need-passed (leb 4 (length r)) (fault 6 at at) _ (le-leb 4 (length r) h)
     ∙ ap (λ (o : Option Kind). elim o as (λ y. Outcome Section) [
-      | none ↦ refused (fault 7 at 0)
+      | none ↦ refused (fault 7 at at)
       | some j ↦ tested at (sectionChecks x j (kindBefore j ss) (ruleBefore (partIn j r) ss) r) (sectionRest false x j at r)
     ]) q
 

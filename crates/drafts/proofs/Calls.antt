@@ -51,7 +51,7 @@ fault-first d next a =
 pub fault-else : {r : ℕ} (d : List ℕ) (n p : ℕ) → Accepted r ≡ asAnswer rowCount (reading false d) → Refused n p ≡ writeAnswer (refusedAfter d n p)
 fault-else d n p a =
     let r = reads d a in
-    refused-written (refusedAfter d n p) d (record { cause = fault n p 0; is = then-found _ (r .1); number = refl; place = refl }) .0
+    refused-written (refusedAfter d n p) d (record { cause = fault n p p; is = then-found _ (r .1); number = refl; place = refl }) .0
 
 -- ---- the answer where a field does not fit
 
@@ -63,7 +63,7 @@ unfit-fault d a = fault-first d _ a .0
 pub unfit-else : {n : ℕ} (d : List ℕ) → Reads d → n ≡ stated d → Refused 24 n ≡ writeAnswer (unfit d)
 unfolding unfit
 unfit-else d r e =
-    refused-written (unfit d) d (record { cause = fault 24 (stated d) 0; is = then-found _ (r .1); number = refl; place = e }) .0
+    refused-written (unfit d) d (record { cause = fault 24 (stated d) (stated d); is = then-found _ (r .1); number = refl; place = e }) .0
 
 -- ---- a refusal that gives way to the draft's own fault
 
@@ -79,8 +79,8 @@ unread d next n a = go (reading false d) refl a
     go (found ss) e q = absurd (n (ss, e))
 
 -- Two refusals with one number and one place are told alike.
-told-alike : (o : Outcome (List Section)) (n p : ℕ) (f : Fault) → n ≡ f .number → p ≡ f .part
-    → (writeAnswer (andThen o (λ ss. refused (fault n p 0))) ≡ writeAnswer (andThen o (λ ss. refused f)))
+told-alike : (o : Outcome (List Section)) (n p : ℕ) (f : Fault) → n ≡ f .number → p ≡ f .place
+    → (writeAnswer (andThen o (λ ss. refused (fault n p p))) ≡ writeAnswer (andThen o (λ ss. refused f)))
 unfolding asAnswer andThen
 told-alike (refused g) n p f a b = refl
 told-alike (found ss) n p f a b = ap₂ Refused a b
@@ -130,13 +130,13 @@ appended-passed d o w bs e =
 
 -- A refusal of appending with any number but 23 is the longer draft's, at its place.
 pub appended-refused : {n p : ℕ} (d : List ℕ) (o : ℕ) (w : List ℕ) → Refused n p ≡ writeAnswer (appended d o w) → (n ≡ 23 → ⊥)
-    → (stated d + length w ≤ 3500) × ((f : Fault) × ((reading false (grown d o w) ≡ refused f) × (p ≡ f .part)))
+    → (stated d + length w ≤ 3500) × ((f : Fault) × ((reading false (grown d o w) ≡ refused f) × (p ≡ f .place)))
 unfolding appended need andThen asAnswer
 appended-refused {n} {p} d o w a other = go (leb (stated d + length w) 3500) (leb (stated d + length w) (length d)) (reading false (grown d o w)) refl refl a
   where
     go : (u v : Bool) (r : Outcome (List Section)) → leb (stated d + length w) 3500 ≡ u → reading false (grown d o w) ≡ r
-        → Refused n p ≡ writeAnswer (need (u && v) (fault 23 (stated d) 0) (andThen r (λ ts. found (grown d o w))))
-        → (stated d + length w ≤ 3500) × ((f : Fault) × ((reading false (grown d o w) ≡ refused f) × (p ≡ f .part)))
+        → Refused n p ≡ writeAnswer (need (u && v) (fault 23 (stated d) (stated d)) (andThen r (λ ts. found (grown d o w))))
+        → (stated d + length w ≤ 3500) × ((f : Fault) × ((reading false (grown d o w) ≡ refused f) × (p ≡ f .place)))
     go true true (refused f) e q y = (leb-true (stated d + length w) 3500 e, (f, (q, cc)))
     go true true (found ts) e q y = absurd (let z : _≡_ {A = ℕ} 0 1 = cc in omega arith)
     go true false r e q y = absurd (other cc)
@@ -172,4 +172,4 @@ left-found d rest ss e own = let r = told-found rowCount rest own in (ss ++ r .0
 
 -- A refusal leaves the draft as it was.
 pub refused-kept : (d : List ℕ) (n p : ℕ) → draftAfter (refusedAfter d n p) d ≡ d
-refused-kept d n p = kept (reading false d) (fault n p 0) d
+refused-kept d n p = kept (reading false d) (fault n p p) d

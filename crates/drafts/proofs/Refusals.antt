@@ -7,23 +7,24 @@ use mathlib.Core.Logic.{_⊎_, inl, inr, ⊎-elim}
 use Prim.Native.Nat.{ℕ, suc, _+_, _^_, _≤_, _<_}
 use native.Mathlib.Nat.{add-zero}
 use native.Mathlib.Omega.{arith}
-use lib.ListN.{length, take, drop, length-append, length-drop, take-append-drop}
+use lib.ListN.{length, take, drop, replicate, length-replicate, length-append, length-drop, take-append-drop}
 use lib.Seq.{take-at, take-all, drop-at, drop-append-le, length-take-le}
 use Rattle.format.specs.Bytes.{Bytes}
 use Rattle.format.specs.Parts.{external, writeParts}
-use Rattle.format.specs.Rules.{Check, Section}
-use Rattle.format.specs.Reading.{Fault, fault, Outcome, refused, found, need, tested, idOf, stated, headerChecks, section, reading}
+use Rattle.format.specs.Rules.{Section}
+use Rattle.format.specs.Reading.{Fault, fault, Outcome, refused, found, need, Test, tested, idOf, stated, headerChecks, section, reading}
 use Rattle.format.proofs.Tests.{Hold, tests-lead, then-found, then-refused}
 use Rattle.format.proofs.Grouping.{all-join, all-split}
 use Rattle.format.proofs.Changes.{restate}
 use Rattle.format.proofs.Numbers.{bytes-take, bytes-drop}
 use Rattle.format.proofs.Turns.{sectionsFrom, sections-from, sections-none, sections-more}
-use Rattle.format.proofs.Numbering.{Early, Comes, Inside, section-comes}
+use Rattle.format.proofs.Numbering.{Early, Comes, Inside, section-comes, stated-front}
+use Rattle.format.proofs.Offsets.{Inner}
 use Rattle.format.proofs.Sound.{section-read}
 use Rattle.format.proofs.Complete.{section-found}
 use Rattle.contents.proofs.Headers.{lengths}
 use Rattle.draft_parts.specs.Tiling.{Reads, TiledTo, here, next, Tiled}
-use Rattle.draft_parts.proofs.Tiling.{stated-front, passed, passed-then}
+use Rattle.draft_parts.proofs.Tiling.{passed, passed-then}
 use Rattle.longer_drafts.specs.Appended.{grown, appended}
 use Rattle.longer_drafts.proofs.Longer.{restate-long, grown-long}
 use Rattle.longer_drafts.proofs.Restating.{behind-restated, restate-id, restate-stated, restate-over, id-taken}
@@ -50,17 +51,19 @@ section-moved x before at a w y s b small four ends e =
 
 -- A section that is refused is refused within its own bytes.
 section-early : (x : Bool) (before : List Section) (at : ℕ) (r : List ℕ) (f : Fault) → 4 ≤ stated r
-    → section false x before at r ≡ refused f → f .part < at + stated r
+    → section false x before at r ≡ refused f → f .place < at + stated r
 section-early x before at r f four e =
-    let c : Early false (at + stated r) f =
-    subst (Comes (Early false (at + stated r)) (Inside r)) e (section-comes (at + stated r) false x before at r (omega arith) (λ h. omega arith)) in
+    let z : List ℕ = replicate at 0 ++ r in
+    let there : r ≡ drop at z = sym (drop-at (replicate at 0) r at (length-replicate {A = ℕ} at 0)) in
+    let c : Early false z (at + stated r) f =
+    subst (Comes (Early false z (at + stated r)) (Inside r)) e (section-comes z (at + stated r) false x before at r there (omega arith) (λ h. omega arith) (λ h. omega arith)) in
     c .early (c .listed .complete refl)
 
 -- ---- all sections
 
 -- What is read comes to no refusal before e.
 abbrev pub Late : ℕ → Outcome (List Section) → Type 0
-Late e (refused f) = e ≤ f .part
+Late e (refused f) = e ≤ f .place
 Late e (found ss) = Unit {0}
 
 -- A section T, then what is passed after it, and what follows.
@@ -88,7 +91,7 @@ turn x before at T P w b small four same h more = go (section false x before at 
         let k = length-append T P in
         let st : stated (T ++ (P ++ w)) ≡ length T = stated-front T (P ++ w) (omega arith) ∙ same in
         let n = section-early x before at (T ++ (P ++ w)) f (omega arith) e in
-        let m : at + length (T ++ P) ≤ f .part =
+        let m : at + length (T ++ P) ≤ f .place =
         subst (Late (at + length (T ++ P))) (sections-more false x before at (T ++ (P ++ w)) (omega arith) ∙ then-refused _ e) h in
         absurd (omega arith)
     go (found s) e =
@@ -119,27 +122,31 @@ sections-front {z} {r} x w (next four ends t) before at b small h =
 
 -- ---- the longer draft
 
--- A refusal after tests is one of them, at their place, or comes after them.
-pub tests-late : {A : Type 0} (at : ℕ) (cs : List Check) (rest : Outcome A) (f : Fault) → tested at cs rest ≡ refused f
-    → (f .part ≡ at) ⊎ (Hold cs × (rest ≡ refused f))
+-- A refusal after tests is one of them, in the m bytes that they look at, or comes after them.
+pub tests-late : {A : Type 0} (at m : ℕ) (cs : List Test) (rest : Outcome A) (f : Fault) → Inner m cs → tested at cs rest ≡ refused f
+    → (f .place < at + m) ⊎ (Hold cs × (rest ≡ refused f))
 unfolding tested need
-tests-late at [] rest f e = inr (tt, e)
-tests-late {A} at (c ∷ cs) rest f e = go (c .holds) refl (λ q. tests-late at cs rest f q) e
+tests-late at m [] rest f i e = inr (tt, e)
+tests-late {A} at m (c ∷ cs) rest f i e = go (c .holds) refl (λ q. tests-late at m cs rest f (i .1) q) e
   where
-    go : (b : Bool) → c .holds ≡ b → (tested at cs rest ≡ refused f → (f .part ≡ at) ⊎ (Hold cs × (rest ≡ refused f)))
-        → need b (fault (c .refusal) at (c .field)) (tested at cs rest) ≡ refused f → (f .part ≡ at) ⊎ (Hold (c ∷ cs) × (rest ≡ refused f))
+    go : (b : Bool) → c .holds ≡ b → (tested at cs rest ≡ refused f → (f .place < at + m) ⊎ (Hold cs × (rest ≡ refused f)))
+        → need b (fault (c .refusal) at (at + c .offset)) (tested at cs rest) ≡ refused f → (f .place < at + m) ⊎ (Hold (c ∷ cs) × (rest ≡ refused f))
     go true p more q = ⊎-elim (λ u. inl u) (λ u. inr ((p, u .0), u .1)) (more q)
-    go false p more q = inl cc
+    go false p more q = let l = i .0 p in let w : at + c .offset ≡ f .place = cc in inl (omega arith)
 
--- Tests at a place before e: nothing is refused by them either.
-tests-gone : (e at : ℕ) (cs : List Check) (rest : Outcome (List Section)) → at < e → Late e (tested at cs rest) → Late e rest
+-- Tests of bytes before e: nothing is refused by them either.
+tests-gone : (e at m : ℕ) (cs : List Test) (rest : Outcome (List Section)) → at + m ≤ e → Inner m cs → Late e (tested at cs rest) → Late e rest
 unfolding tested need
-tests-gone e at [] rest h l = l
-tests-gone e at (c ∷ cs) rest h l = go (c .holds) (λ k. tests-gone e at cs rest h k) l
+tests-gone e at m [] rest h i l = l
+tests-gone e at m (c ∷ cs) rest h i l = go (c .holds) refl (λ k. tests-gone e at m cs rest h (i .1) k) l
   where
-    go : (b : Bool) → (Late e (tested at cs rest) → Late e rest) → Late e (need b (fault (c .refusal) at (c .field)) (tested at cs rest)) → Late e rest
-    go true more k = more k
-    go false more k = absurd (omega arith)
+    go : (b : Bool) → c .holds ≡ b → (Late e (tested at cs rest) → Late e rest) → Late e (need b (fault (c .refusal) at (at + c .offset)) (tested at cs rest)) → Late e rest
+    go true p more k = more k
+    go false p more k = let o = i .0 p in absurd (omega arith)
+
+-- The header's tests look at its eight bytes.
+pub header-inner : (full : Bool) (bs : List ℕ) → Inner 8 (headerChecks full bs)
+header-inner full bs = (λ e. omega arith, (λ e. omega arith, (λ e. omega arith, (λ e. omega arith, (λ e. omega arith, tt)))))
 
 -- The draft with a section after it: the id, the new length, and the section after those that were there.
 pub record GrownParts (d w : List ℕ) : Type 0 where
@@ -190,7 +197,7 @@ front-read d w b c h m t l =
     ∙ ap₂ (λ (i : ℕ) (y : List ℕ). sectionsFrom false (external i) [] 8 y) (p .id) body in
     let end : stated d ≡ 8 + length (passed t) = omega arith in
     let late = subst (λ (e : ℕ). Late e (sectionsFrom false x [] 8 (passed t ++ w))) end
-    (subst (Late (stated d)) from (tests-gone (stated d) 0 (headerChecks false g) _ (omega arith) l)) in
+    (subst (Late (stated d)) from (tests-gone (stated d) 0 8 (headerChecks false g) _ (omega arith) (header-inner false g) l)) in
     let r = sections-front x w t [] 8
     (all-join (λ (y : ℕ). y < 256) (passed t) w (subst Bytes all (bytes-drop 8 D (bytes-take (stated d) d b))) c) (omega arith) late in (
       r .0,

@@ -16,7 +16,7 @@ lastPlace last at (s ∷ ss) = lastPlace at (at + span (s .head) (s .subs)) ss
 
 -- the draft's own fault, else the refusal with this number and place
 abbrev pub refusedAfter : List ℕ → ℕ → ℕ → Outcome (List ℕ)
-refusedAfter d n p = andThen (reading false d) (λ ss. refused (fault n p 0))
+refusedAfter d n p = andThen (reading false d) (λ ss. refused (fault n p p))
 
 -- the draft's own fault, else 24
 unfoldable pub unfit : List ℕ → Outcome (List ℕ)
@@ -37,4 +37,4 @@ subsectionAdded i d w =
     andThen (reading false d)
     (λ ss.
     let o = lastPlace 0 8 ss in
-    need (eqb (idOf (drop o d)) i) (fault 25 (stated d) 0) (appended d o w))
+    need (eqb (idOf (drop o d)) i) (fault 25 (stated d) (stated d)) (appended d o w))

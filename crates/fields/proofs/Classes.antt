@@ -7,7 +7,7 @@ use native.Mathlib.Omega.{arith}
 use lib.Dec.{eqb, leb, ltb}
 use borrow.Author.Tests.{le-leb, lt-leb, leb-true, ltb-true, ltb-false, eqb-true}
 use Rattle.format.proofs.Finding.{and-split}
-use Rattle.format.specs.Forms.{between, letter, digit, ruleSign, labelSign, star, space, inLabel}
+use Rattle.format.specs.Forms.{between, letter, digit, ruleSign, labelSign, star, space, inRuleId, inLabel, plainLabel}
 use Rattle.fields.specs.Classes.{pick, classOf, ofClass, letterClass, digitClass, ruleClass, labelClass, starClass, spaceClass, otherClass}
 
 pub yes-or-no : (t : Bool) → (t ≡ true) ⊎ (t ≡ false)
@@ -73,13 +73,17 @@ module _ (P : ℕ → Bool → Bool → Bool → Bool → Bool → Bool → Type
 
 -- ---- the format's characters by their classes
 
--- a letter, a digit, or one of # $ @
-abbrev pub plain : ℕ → Bool
-plain b = letter b || digit b || labelSign b
+pub rule-class : (b : ℕ) → inRuleId b ≡ ofClass letterClass ruleClass b
+unfolding ofClass
+rule-class = by-class (λ c l d r g t p. (l || d || r) ≡ between letterClass ruleClass c) refl refl refl refl refl refl refl
 
-pub plain-class : (b : ℕ) → plain b ≡ ofClass labelClass digitClass b
+pub plain-class : (b : ℕ) → plainLabel b ≡ ofClass labelClass digitClass b
 unfolding ofClass
 plain-class = by-class (λ c l d r g t p. (l || d || g) ≡ between labelClass digitClass c) refl refl refl refl refl refl refl
+
+pub space-class : (b : ℕ) → space b ≡ ofClass spaceClass spaceClass b
+unfolding ofClass
+space-class = by-class (λ c l d r g t p. p ≡ between spaceClass spaceClass c) refl refl refl refl refl refl refl
 
 pub star-class : (b : ℕ) → star b ≡ eqb (classOf b) starClass
 star-class = by-class (λ c l d r g t p. t ≡ eqb c starClass) refl refl refl refl refl refl refl

@@ -1,14 +1,17 @@
 -- Runs of bytes that pass a test, from a place on. Assumes nothing.
-use mathlib.Core.Path.{_≡_, refl, sym, ap, _∙_}
+use mathlib.Core.Path.{_≡_, refl, sym, ap, ap₂, _∙_}
 use mathlib.Core.Bool.{Bool, true, false, _&&_, and-false}
 use mathlib.Core.List.{List, [], _∷_}
 use Prim.Native.Nat.{ℕ, suc, _+_, _-_, _<_, _≤_}
 use native.Mathlib.Nat.{add-zero}
 use native.Mathlib.Omega.{arith}
 use mathlib.Core.Logic.{⊎-elim}
+use lib.Dec.{eqb}
 use lib.ListN.{length, getD, drop}
+use borrow.Author.Tests.{eq-eqb, ne-eqb}
+use Rattle.format.proofs.Grouping.{is-false}
 use Rattle.format.specs.Bytes.{every, bytesAt}
-use Rattle.format.specs.Forms.{leading}
+use Rattle.format.specs.Forms.{leading, space, reach}
 use Rattle.fields.specs.Classes.{ofClass}
 use Rattle.fields.proofs.Lists.{bytes-end, bytes-next, bytes-drop}
 use Rattle.fields.proofs.Classes.{yes-or-no}
@@ -51,21 +54,32 @@ module _ (f : ℕ → Bool) (s : List ℕ) (p e : ℕ) where
   pub run-done : e ≤ p → p ≡ p + leading f (bytesAt s p (e - p))
   run-done h = rw (bytes-end s p e h) (sym (add-zero p))
 
--- ---- what is left after a run
+-- a run of the classes lo to hi, where f is their test
+pub run-passed : (f : ℕ → Bool) (lo hi : ℕ) → ((b : ℕ) → f b ≡ ofClass lo hi b) → (bs : List ℕ) (i : ℕ) {p : ℕ}
+    → p ≡ i + leading (ofClass lo hi) bs → p ≡ i + leading f bs
+run-passed f lo hi same bs i run = run ∙ rw (leading-same f (ofClass lo hi) same bs)
 
--- f is the test of the classes lo to hi, and the run of those from i on ends at p
-pub run-left : (f : ℕ → Bool) (lo hi : ℕ) → ((b : ℕ) → f b ≡ ofClass lo hi b) → (s : List ℕ) (i e : ℕ) {p : ℕ}
-    → i ≤ e → e ≤ length s → p ≡ i + leading (ofClass lo hi) (bytesAt s i (e - i)) → p ≤ e
-    → drop (leading f (bytesAt s i (e - i))) (bytesAt s i (e - i)) ≡ bytesAt s p (e - p)
-run-left f lo hi same s i e {p} h l run w =
-    let z : leading f (bytesAt s i (e - i)) ≡ p - i
-    = leading-same f (ofClass lo hi) same (bytesAt s i (e - i)) ∙ omega arith in
-    let a : i + (p - i) ≡ p = omega arith in
-    let b : (e - i) - (p - i) ≡ e - p = omega arith in
-    ap (λ (k : ℕ). drop k (bytesAt s i (e - i))) z
-    ∙ bytes-drop s i (e - i) (p - i) (omega arith) (omega arith)
-    ∙ ap (λ (x : ℕ). bytesAt s x ((e - i) - (p - i))) a
-    ∙ ap (bytesAt s p) b
+-- ---- what is left after a run, and the spaces there
+
+-- the bytes from i on without the first k, which end at p
+pub left-at : (s : List ℕ) (i e : ℕ) {p : ℕ} (k : ℕ) → p ≡ i + k → p ≤ e → e ≤ length s
+    → drop k (bytesAt s i (e - i)) ≡ bytesAt s p (e - p)
+left-at s i e {p} k ends w l =
+    let n : (e - i) - k ≡ e - p = omega arith in
+    bytes-drop s i (e - i) k (omega arith) (omega arith) ∙ ap₂ (bytesAt s) (sym ends) n
+
+-- the run of f in front of the bytes, which are those from i on, ends at p
+module _ (f : ℕ → Bool) (bs : List ℕ) (i : ℕ) {p : ℕ} (run : p ≡ i + leading f bs) where
+  -- no byte passes
+  pub reach-none : p ≡ i → reach f bs ≡ 0
+  reach-none h = rw (eq-eqb (leading f bs) 0 (omega arith), reach)
+
+  -- one or more pass
+  pub reach-some : (p ≡ i → ⊥) → reach f bs ≡ (p - i) + leading space (drop (p - i) bs)
+  reach-some h =
+      let n : leading f bs ≡ p - i = omega arith in
+      is-false (eqb (leading f bs) 0) 0 (leading f bs + leading space (drop (leading f bs) bs))
+      (ne-eqb (leading f bs) 0 (λ z. h (omega arith))) ∙ rw n
 
 -- ---- a flag that falls where a byte fails its test, and what is still to be tested
 

@@ -1,11 +1,10 @@
--- Internal: a label template after the characters that stand anywhere in it.
+-- Internal: the star of a label template behind the characters that stand anywhere in it.
 use mathlib.Core.Bool.{Bool, true, false}
-use mathlib.Core.List.{List, [], _∷_}
+use mathlib.Core.List.{List}
 use Prim.Native.Nat.{ℕ}
-use Rattle.format.specs.Forms.{star}
+use Rattle.format.specs.Forms.{oneStar}
 
--- the bytes without a star in front of them; with true, where the template's first character is a star, nothing is taken away
-abbrev pub afterStar : Bool → List ℕ → List ℕ
-afterStar true xs = xs
-afterStar false [] = []
-afterStar false (x ∷ xs) = elim (star x) [ true ↦ xs | false ↦ x ∷ xs ]
+-- 1 where a star stands in front of the bytes, else 0; with true, where the template's first character is a star, none is taken
+abbrev pub starAfter : Bool → List ℕ → ℕ
+starAfter true xs = 0
+starAfter false xs = oneStar xs

@@ -36,9 +36,13 @@ pub(crate) const LETTER: u8 = b'a';
 
 pub(crate) const DIGIT: u8 = b'd';
 
+pub(crate) const RULE_SIGN: u8 = b'h';
+
 pub(crate) const LABEL_SIGN: u8 = b'@';
 
 pub(crate) const STAR: u8 = b'*';
+
+pub(crate) const SPACE: u8 = b's';
 
 // The first hexadecimal digit of a, d and h, the marks of what stands in a Rule ID; that of s is 7, of the others less.
 pub(crate) const IN_RULE_ID: u8 = 6;

@@ -17,7 +17,7 @@ use Rattle.format.specs.Reading.{found, idOf, stated, kindBefore, sectio
 use Rattle.format.proofs.Numbers.{bytes-take, bytes-drop}
 use Rattle.format.proofs.Finding.{and-split, and-join}
 use Rattle.format.proofs.Unique.{written-length}
-use Rattle.format.proofs.Tests.{Hold, tests-passed, tests-lead}
+use Rattle.format.proofs.Tests.{Hold, Kept, tests-passed, tests-lead}
 use Rattle.format.proofs.Grouping.{all-map, stateable, group-flat}
 use Rattle.format.proofs.Sound.{GoodPart, GoodSection, GoodSections, sections-read}
 use Rattle.format.proofs.Complete.{sections-found}
@@ -127,7 +127,7 @@ good-lawful full i ss k g =
     let back : sectionsOf (partsOf ss) ≡ ss = group-flat ss (grouped full x ss (g .each)) in
     record {
       identifier = k;
-      fields = all-map (GoodPart x) (λ (p : Part). Hold (checks x (p .kind) (p .fields))) (λ p q. q .kept) (partsOf ss)
+      fields = all-map (GoodPart x) (λ (p : Part). Kept (checks x (p .kind) (p .fields))) (λ p q. q .kept) (partsOf ss)
           (flat-good full x ss (g .each));
       sections = rw back (g .pairs);
       tags = rw back (all-map (GoodSection full x) (λ (s : Section). Pairwise otherKind (s .subs)) (λ s q. q .tags) ss (g .each));
@@ -144,7 +144,7 @@ good-complete x ss g k =
 
 -- Each part of a choice that keeps the rules is good.
 pub choice-parts : (x : Bool) (ps : List Part) → All (λ (p : Part). All Bytes (p .fields)) ps
-    → All (λ (p : Part). fits [] (layout (p .kind)) (p .fields) ≡ true) ps → All (λ (p : Part). Hold (checks x (p .kind) (p .fields))) ps
+    → All (λ (p : Part). fits [] (layout (p .kind)) (p .fields) ≡ true) ps → All (λ (p : Part). Kept (checks x (p .kind) (p .fields))) ps
     → All (GoodPart x) ps
 choice-parts x [] a b c = tt
 choice-parts x (p ∷ ps) a b c = (record { fit = b .0; bytes = a .0; kept = c .0 }, choice-parts x ps (a .1) (b .1) (c .1))

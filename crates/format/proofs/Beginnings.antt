@@ -15,7 +15,7 @@ use Rattle.format.specs.Parts.{external}
 use Rattle.format.specs.Legal.{Pairwise, Lawful}
 use Rattle.format.proofs.Numbers.{bytes-append, bytes-bigEndian, bytes-zeros}
 use Rattle.format.proofs.Finding.{and-split, and-join, or-map}
-use Rattle.format.proofs.Tests.{Hold}
+use Rattle.format.proofs.Tests.{Kept}
 use Rattle.format.proofs.Unique.{written-length}
 use Rattle.format.proofs.Reaching.{sizes, sizes-written}
 use Rattle.format.proofs.Grouping.{all-split}
@@ -200,7 +200,7 @@ mask-front us vs e =
 pub lawful-front : (i : ℕ) (ps qs : List Part) → Lawful i (ps ++ qs) → Lawful i ps
 lawful-front i ps qs l = record {
   identifier = l .identifier;
-  fields = all-split (λ (p : Part). Hold (checks (external i) (p .kind) (p .fields))) ps qs (l .fields) .0;
+  fields = all-split (λ (p : Part). Kept (checks (external i) (p .kind) (p .fields))) ps qs (l .fields) .0;
   sections = from-heads (sectionsOf ps)
       (pairwise-front mayHeads (heads (sectionsOf ps)) (heads (sectionsOf qs)) (rw (heads-join ps qs) at (to-heads (sectionsOf (ps ++ qs)) (l .sections))));
   tags = sections-front (λ us. Pairwise otherKind us) (λ us vs h. pairwise-front otherKind us vs h) ps qs (l .tags);

@@ -11,19 +11,19 @@ use lib.Seq.{drop-at}
 use borrow.Author.Tests.{eq-eqb, le-leb, not-true}
 use Rattle.format.specs.Bytes.{All, number, bytesAt}
 use Rattle.format.specs.Layout.{Item, code, zeros, own, count, fixed, counted, Fields, fits, write}
-use Rattle.format.specs.Slots.{least}
+use Rattle.format.specs.Slots.{least, slots}
 use Rattle.format.specs.Parts.{Kind, rule, information, sectionId, tag, sameKind, isSubsection, layout, Part, size, subsectionsLength, span, writeParts}
 use Rattle.format.specs.Reading.{sectionKind, subsectionKind}
 use Rattle.format.specs.Rules.{checks, Section, has, sameRuleId, mayBothStand, otherKind, maskCovers, hasRequired}
 use Rattle.format.specs.Legal.{Pairwise}
-use Rattle.format.specs.Reading.{Outcome, refused, found, fault, need, andThen, idOf, stated, bodySlots, madeLength, partIn, zeroChecks, fieldChecks}
+use Rattle.format.specs.Reading.{Outcome, refused, found, fault, need, andThen, idOf, stated, bodySlots, madeLength, partIn, zeroChecks, located, fieldChecks}
 use Rattle.format.specs.Reading.{tested, subsectionChecks, subsection, subsections, holdsSubs, kindBefore, ruleBefore, sectionChecks}
 use Rattle.format.specs.Reading.{afterSubsections, sectionRest, section, sections, partsOf}
 use Rattle.format.proofs.Numbers.{bigEndian-length, same-sym}
 use Rattle.format.proofs.Finding.{and-join, or-left, or-right, or-else, every-kind, sameKind-eq, sectionKind-told, subsectionKind-told}
 use Rattle.format.proofs.Fitting.{Fits, part-fits}
 use Rattle.format.proofs.Unique.{size-any, size-pos}
-use Rattle.format.proofs.Tests.{need-passed, then-found, Hold, tests-lead, hold-join}
+use Rattle.format.proofs.Tests.{need-passed, then-found, Hold, tests-lead, hold-join, kept-located}
 use Rattle.format.proofs.PartForm.{Framed, part-read}
 use Rattle.format.proofs.Grouping.{all-split, parts-then-section, span-sub, span-section, subs-long}
 use Rattle.format.proofs.Sound.{GoodSub, GoodSection, kinds-differ, subs-of}
@@ -85,13 +85,13 @@ sub-found x o before at n p r z g new ends small e =
           framed .1,
           (
             eq-eqb (madeLength k r) (stated r) (i .3 ∙ sym long),
-            hold-join (zeroChecks 3 r (bodySlots k r)) (checks x k (partIn k r .fields)) (i .1) (rw fields (g .part .kept)),
+            hold-join (zeroChecks r (bodySlots k r)) (located (slots [] (layout k) r 0) (checks x k (partIn k r .fields))) (i .1) (kept-located (slots [] (layout k) r 0) (checks x k (partIn k r .fields)) (rw fields (g .part .kept))),
           ),
         ),
       ),
     ) in
-    need-passed (leb 4 n) (fault 12 at 0) _ (le-leb 4 n (omega arith))
-    ∙ ap (λ (m : Option Kind). elim m as (λ y. Outcome Part) [ none ↦ refused (fault 13 at 0) | some j ↦ tested at (subsectionChecks x j (has j before) n r) (found (partIn j r)) ]) told
+    need-passed (leb 4 n) (fault 12 at at) _ (le-leb 4 n (omega arith))
+    ∙ ap (λ (m : Option Kind). elim m as (λ y. Outcome Part) [ none ↦ refused (fault 13 at at) | some j ↦ tested at (subsectionChecks x j (has j before) n r) (found (partIn j r)) ]) told
     ∙ tests-lead at (subsectionChecks x k (has k before) n r) (found (partIn k r)) hold
     ∙ ap {B = Outcome Part} found (i .2)
 
@@ -258,7 +258,7 @@ section-found full x before at s r z g new small e =
           (
             made-whole x k us (madeLength k r) (size p) (stated r) (g .head) (g .subs) (i .3) (st ∙ lt),
             hold-join (fieldChecks x k r) _
-                (hold-join (zeroChecks 3 r (bodySlots k r)) (checks x k (partIn k r .fields)) (i .1) (rw fields (g .part .kept)))
+                (hold-join (zeroChecks r (bodySlots k r)) (located (slots [] (layout k) r 0) (checks x k (partIn k r .fields))) (i .1) (kept-located (slots [] (layout k) r 0) (checks x k (partIn k r .fields)) (rw fields (g .part .kept))))
                 (ap (λ (q : Part). not (sameKind rule k && ruleBefore q before)) (i .2) ∙ rule-new s before new, tt),
           ),
         ),
@@ -269,8 +269,8 @@ section-found full x before at s r z g new small e =
     ap₂ (λ (n : ℕ) (y : List ℕ). drop n y) (i .3) form ∙ drop-at a (writeParts us ++ z) (size p) la in
     let subs = ap₂ (λ (n : ℕ) (y : List ℕ). subsections (suc (stated r)) x k [] (at + madeLength k r) n y) left rest
     ∙ subs-found (suc (stated r)) x k [] (at + madeLength k r) us z (omega arith) (omega arith) (g .subs) (g .tags) in (
-      need-passed (leb 4 (length r)) (fault 6 at 0) _ (le-leb 4 (length r) (let q = size-pos p in omega arith))
-          ∙ ap (λ (m : Option Kind). elim m as (λ y. Outcome Section) [ none ↦ refused (fault 7 at 0) | some j ↦ tested at (sectionChecks x j (kindBefore j before) (ruleBefore (partIn j r) before) r) (sectionRest full x j at r) ]) told
+      need-passed (leb 4 (length r)) (fault 6 at at) _ (le-leb 4 (length r) (let q = size-pos p in omega arith))
+          ∙ ap (λ (m : Option Kind). elim m as (λ y. Outcome Section) [ none ↦ refused (fault 7 at at) | some j ↦ tested at (sectionChecks x j (kindBefore j before) (ruleBefore (partIn j r) before) r) (sectionRest full x j at r) ]) told
           ∙ tests-lead at (sectionChecks x k (kindBefore k before) (ruleBefore (partIn k r) before) r) _ hold
           ∙ then-found _ subs
           ∙ ap (λ (q : Part). afterSubsections full at (at + madeLength k r) (record { head = q; subs = us })) (i .2)
@@ -296,7 +296,7 @@ sections-turn d full x before at (b ∷ bs) h = refl
 
 -- The loop ends where no byte is left.
 sections-end : (d : ℕ) (full x : Bool) (before : List Section) (at : ℕ)
-    → sections (suc d) full x before at [] ≡ need (not full || kindBefore information before) (fault 20 at 0) (found before)
+    → sections (suc d) full x before at [] ≡ need (not full || kindBefore information before) (fault 20 at at) (found before)
 unfolding sections
 sections-end d full x before at = refl
 
@@ -309,7 +309,7 @@ sections-found zero full x before at ss h small g w i = absurd (omega arith)
 sections-found (suc d) full x before at [] h small g w i =
     let e : before ++ [] ≡ before = append-nil before in
     sections-end d full x before at
-    ∙ need-passed _ (fault 20 at 0) (found before) (rw e at i)
+    ∙ need-passed _ (fault 20 at at) (found before) (rw e at i)
     ∙ ap {B = Outcome (List Section)} found (sym e)
 sections-found (suc d) full x before at (s ∷ ss) h small g w i =
     let a : List ℕ = writeParts (s .head ∷ s .subs) in

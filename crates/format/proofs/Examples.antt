@@ -11,14 +11,19 @@ use Rattle.format.specs.Lines.{text, firstLine, rowLine}
 use Rattle.format.specs.declared.Answer.the-variants.{Refused}
 use Rattle.format.specs.declared.Row.{Row}
 use Rattle.format.specs.Bytes.{All, number, bytesAt, allZero, sameBytes}
-use Rattle.format.specs.Forms.{ruleIdForm, dateExists}
+use Rattle.format.specs.Forms.{ruleIdForm, ruleIdReach, labelForm, labelReach, dateExists, modulusForm, exponentForm}
 use Rattle.format.specs.Reading.{answer, asAnswer, reading, sections, section, sectionRest, afterSubsections, subsections, subsection, tested, need, andThen}
 use Rattle.format.proofs.Numbers.{bytes-zeros}
 use Rattle.format.specs.Examples.{tokenT, Holds, starred, springToken}
+use Rattle.format.specs.PlaceExamples.{placesRead}
 
 pub starred-hold : All Holds starred
-unfolding answer asAnswer reading sections section sectionRest afterSubsections subsections subsection tested need andThen number bytesAt allZero sameBytes dateExists ruleIdForm
+unfolding answer asAnswer reading sections section sectionRest afterSubsections subsections subsection tested need andThen number bytesAt allZero sameBytes dateExists ruleIdForm ruleIdReach
 starred-hold = (refl, (refl, (refl, (refl, (refl, (λ b. refl, (refl, (refl, (refl, (refl, (refl, tt)))))))))))
+
+pub places-read : All Holds placesRead
+unfolding answer asAnswer reading sections section sectionRest afterSubsections subsections subsection tested need andThen number bytesAt allZero sameBytes ruleIdForm ruleIdReach labelForm labelReach modulusForm exponentForm
+places-read = (refl, (refl, (refl, (refl, (refl, (refl, (refl, (refl, (refl, (refl, (refl, (refl, (refl, (refl, (refl, (refl, (refl, (refl, (refl, (refl, (refl, (refl, (refl, (refl, (refl, (refl, (refl, (refl, (refl, (refl, (refl, (refl, (refl, (refl, (refl, (refl, tt))))))))))))))))))))))))))))))))))))
 
 -- the parts of the smallest token
 abbrev pub partsT : List Part
@@ -40,7 +45,7 @@ unfolding answer asAnswer reading sections section sectionRest afterSubsections 
 listing-T = refl
 
 -- The spring bill's token is refused.
-pub spring-refused : answer springToken ≡ Refused 12 100
+pub spring-refused : answer springToken ≡ Refused 12 102
 unfolding answer asAnswer reading sections section sectionRest afterSubsections subsections subsection tested need andThen number bytesAt allZero sameBytes ruleIdForm
 spring-refused = refl
 

@@ -39,20 +39,20 @@ use Rattle.format.proofs.Additions.{any-draft}
 
 -- A section that a draft has is the same in a token, if what it requires is there.
 rest-full : (x : Bool) (k : Kind) (at : ℕ) (r : List ℕ) (s : Section) → sectionRest false x k at r ≡ found s
-    → sectionRest true x k at r ≡ need (hasRequired s) (fault 20 at 0) (found s)
+    → sectionRest true x k at r ≡ need (hasRequired s) (fault 20 at at) (found s)
 unfolding sectionRest afterSubsections
 rest-full x k at r s e =
     let n : ℕ = madeLength k r in
     let f = followed (subsections (suc (stated r)) x k [] (at + n) (stated r - n) (drop n r)) _ s e in
     let t : Section = record { head = partIn k r; subs = f .0 } in
     let m = needed (maskCovers (f .0)) _ _ s (f .2) in
-    let q : t ≡ s = found-inj (needed true (fault 20 at 0) (found t) s (m .1) .1) in
+    let q : t ≡ s = found-inj (needed true (fault 20 at at) (found t) s (m .1) .1) in
     then-found _ (f .1)
     ∙ need-passed (maskCovers (f .0)) _ _ (m .0)
-    ∙ ap (λ (y : Section). need (hasRequired y) (fault 20 at 0) (found y)) q
+    ∙ ap (λ (y : Section). need (hasRequired y) (fault 20 at at) (found y)) q
 
 section-full : (x : Bool) (before : List Section) (at : ℕ) (r : List ℕ) (s : Section) → section false x before at r ≡ found s
-    → section true x before at r ≡ need (hasRequired s) (fault 20 at 0) (found s)
+    → section true x before at r ≡ need (hasRequired s) (fault 20 at at) (found s)
 unfolding section
 section-full x before at r s e =
     let n = needed (leb 4 (length r)) _ _ s e in
@@ -60,13 +60,13 @@ section-full x before at r s e =
   where
     go : (m : Option Kind)
         → elim m as (λ k. Outcome Section) [
-          | none ↦ refused (fault 7 at 0)
+          | none ↦ refused (fault 7 at at)
           | some k ↦ tested at (sectionChecks x k (kindBefore k before) (ruleBefore (partIn k r) before) r) (sectionRest false x k at r)
         ] ≡ found s
         → elim m as (λ k. Outcome Section) [
-          | none ↦ refused (fault 7 at 0)
+          | none ↦ refused (fault 7 at at)
           | some k ↦ tested at (sectionChecks x k (kindBefore k before) (ruleBefore (partIn k r) before) r) (sectionRest true x k at r)
-        ] ≡ need (hasRequired s) (fault 20 at 0) (found s)
+        ] ≡ need (hasRequired s) (fault 20 at at) (found s)
     go none w = absurd (refused-not w)
     go (some k) w =
         let t = tests-passed at (sectionChecks x k (kindBefore k before) (ruleBefore (partIn k r) before) r) _ s w in
@@ -74,9 +74,9 @@ section-full x before at r s e =
 
 -- A required part is missing in this section, or what comes after it decides.
 then-full : {A : Type 0} (b c k : Bool) (at p : ℕ) (s : Section) (a : A) (next : Section → Outcome A)
-    → next s ≡ need (c && k) (fault 20 p 0) (found a)
-    → andThen (need b (fault 20 at 0) (found s)) next
-    ≡ need ((b && c) && k) (fault 20 (elim b as (λ y. ℕ) [ true ↦ p | false ↦ at ]) 0) (found a)
+    → next s ≡ need (c && k) (fault 20 p p) (found a)
+    → andThen (need b (fault 20 at at) (found s)) next
+    ≡ need ((b && c) && k) (fault 20 (elim b as (λ y. ℕ) [ true ↦ p | false ↦ at ]) (elim b as (λ y. ℕ) [ true ↦ p | false ↦ at ])) (found a)
 unfolding andThen need
 then-full true c k at p s a next e = e
 then-full false c k at p s a next e = refl
@@ -97,15 +97,15 @@ sections-full : (d : ℕ) (x : Bool) (before : List Section) (at e : ℕ) (r : L
     → (ts : List Section)
     × (before ++ ts ≡ ss)
     × (sections d true x before at r
-    ≡ need (every hasRequired ts && kindBefore information ss) (fault 20 (lackingAt e at ts) 0) (found ss))
+    ≡ need (every hasRequired ts && kindBefore information ss) (fault 20 (lackingAt e at ts) (lackingAt e at ts)) (found ss))
 unfolding sections
 sections-full zero x before at e r ss b h q = absurd (refused-not q)
 sections-full (suc d) x before at e [] ss b h q =
-    let w : before ≡ ss = found-inj (needed true (fault 20 at 0) (found before) ss q .1) in
+    let w : before ≡ ss = found-inj (needed true (fault 20 at at) (found before) ss q .1) in
     let p : at ≡ e = omega arith in (
       [],
       append-nil before ∙ w,
-      ap₂ (λ (y : List Section) (n : ℕ). need (kindBefore information y) (fault 20 n 0) (found y)) w p,
+      ap₂ (λ (y : List Section) (n : ℕ). need (kindBefore information y) (fault 20 n n) (found y)) w p,
     )
 sections-full (suc d) x before at e (c ∷ cs) ss b h q =
     let r : List ℕ = c ∷ cs in
@@ -120,7 +120,7 @@ sections-full (suc d) x before at e (c ∷ cs) ss b h q =
       sym (append-assoc before (s ∷ []) (i .0)) ∙ i .1,
       ap (λ (o : Outcome Section). andThen o next) (section-full x before at r s (w .1))
           ∙ then-full (hasRequired s) (every hasRequired (i .0)) (kindBefore information ss) at (lackingAt e (at + stated r) (i .0)) s ss next (i .2)
-          ∙ ap (λ (n : ℕ). need (every hasRequired (s ∷ i .0) && kindBefore information ss) (fault 20 (elim (hasRequired s) as (λ y. ℕ) [ true ↦ lackingAt e (at + n) (i .0) | false ↦ at ]) 0) (found ss)) (section-long x before r s g),
+          ∙ ap (λ (n : ℕ). need (every hasRequired (s ∷ i .0) && kindBefore information ss) (fault 20 (elim (hasRequired s) as (λ y. ℕ) [ true ↦ lackingAt e (at + n) (i .0) | false ↦ at ]) (elim (hasRequired s) as (λ y. ℕ) [ true ↦ lackingAt e (at + n) (i .0) | false ↦ at ])) (found ss)) (section-long x before r s g),
     )
 
 -- ---- the draft
@@ -162,7 +162,7 @@ nothingMissing ss = every hasRequired ss && kindBefore information ss
 
 -- A draft that reads is found as a token where nothing that is required is missing, and else refused with 20.
 token-full : (d : List ℕ) (ss : List Section) → Bytes d → reading false d ≡ found ss
-    → reading true (take (stated d) d) ≡ need (nothingMissing ss) (fault 20 (lackingAt (stated d) 8 ss) 0) (found ss)
+    → reading true (take (stated d) d) ≡ need (nothingMissing ss) (fault 20 (lackingAt (stated d) 8 ss) (lackingAt (stated d) 8 ss)) (found ss)
 unfolding reading
 token-full d ss b e =
     let r = reading-sound false d ss b e in
@@ -173,7 +173,7 @@ token-full d ss b e =
     (bytes-drop 8 (take (stated d) d) (bytes-take (stated d) d b)) (omega arith) (tests-passed 0 (headerChecks false d) _ ss e .1) in
     token-of d ss b e
     ∙ i .2
-    ∙ ap (λ (ts : List Section). need (every hasRequired ts && kindBefore information ss) (fault 20 (lackingAt (stated d) 8 ts) 0) (found ss)) (i .1)
+    ∙ ap (λ (ts : List Section). need (every hasRequired ts && kindBefore information ss) (fault 20 (lackingAt (stated d) 8 ts) (lackingAt (stated d) 8 ts)) (found ss)) (i .1)
 
 -- The test is that of the rules of 20.
 all-every : (ss : List Section) → All (λ (s : Section). hasRequired s ≡ true) ss → every hasRequired ss ≡ true
@@ -199,13 +199,13 @@ missing-none d ss b e =
 -- ---- finishing
 
 -- The draft's own fault is given back.
-pub finish-own : (d : List ℕ) (f : Fault) → reading false d ≡ refused f → finish d ≡ Refused (f .number) (f .part)
+pub finish-own : (d : List ℕ) (f : Fault) → reading false d ≡ refused f → finish d ≡ Refused (f .number) (f .place)
 unfolding finish asAnswer
 finish-own d f e = ap (asAnswer (λ us. stated d)) (then-refused _ e)
 
 -- Of a draft that reads 20 is given where a required part is missing, and else its length.
 read-finish : (d : List ℕ) (ss : List Section) → Bytes d → reading false d ≡ found ss
-    → finish d ≡ asAnswer (λ us. stated d) (need (nothingMissing ss) (fault 20 (lackingAt (stated d) 8 ss) 0) (found ss))
+    → finish d ≡ asAnswer (λ us. stated d) (need (nothingMissing ss) (fault 20 (lackingAt (stated d) 8 ss) (lackingAt (stated d) 8 ss)) (found ss))
 unfolding finish
 read-finish d ss b e = ap (asAnswer (λ us. stated d)) (then-found _ e ∙ token-full d ss b e)
 
@@ -220,7 +220,7 @@ finish-lacks d ss b e c = go (nothingMissing ss) refl
 
 -- The two refusals of finishing: the draft's own fault, and 20.
 abbrev Own : List ℕ → ℕ → ℕ → Type 0
-Own d n p = (f : Fault) × (reading false d ≡ refused f) × (n ≡ f .number) × (p ≡ f .part)
+Own d n p = (f : Fault) × (reading false d ≡ refused f) × (n ≡ f .number) × (p ≡ f .place)
 
 abbrev Lacks : List ℕ → ℕ → ℕ → Type 0
 Lacks d n p = (ss : List Section)
@@ -245,7 +245,7 @@ finish-refuses d n p b = ((λ e. go (reading false d) refl e), λ w. back w)
     go (refused f) r e =
         let t = finish-own d f r in
         let m : n ≡ f .number = cc in
-        let k : p ≡ f .part = cc in
+        let k : p ≡ f .place = cc in
         inl (f, r, m, k)
     go (found ss) r e =
         let c = within ss r e in
@@ -315,7 +315,7 @@ pub finish-numbers : (d : List ℕ) → Bytes d
     × (Legal (take (stated d) d) → secondOf (finish d) ≡ stated d)
     × ((numberOf (finish d) ≡ 20) ↔ ((ss : List Section) × (reading false d ≡ found ss) × (Complete (partsOf ss) → ⊥)))
     × ((ss : List Section) → reading false d ≡ found ss → (Complete (partsOf ss) → ⊥) → secondOf (finish d) ≡ lackingAt (stated d) 8 ss)
-    × ((f : Fault) → reading false d ≡ refused f → answerNumbers (finish d) ≡ f .number ∷ f .part ∷ [])
+    × ((f : Fault) → reading false d ≡ refused f → answerNumbers (finish d) ≡ f .number ∷ f .place ∷ [])
 finish-numbers d b = (
   ((λ e. legal e), λ l. first (done l)),
   (λ l. second (done l)),

@@ -43,7 +43,7 @@ other-told (Refused n p) h = refl
 -- Of a call that writes: 0 and what is counted of what was found, or the refusal's number and place.
 pub outcome-told : {A : Type 0} (count : A → ℕ) (o : Outcome A)
     → ((a : A) → o ≡ found a → answerNumbers (asAnswer count o) ≡ 0 ∷ count a ∷ [])
-    × ((f : Fault) → o ≡ refused f → answerNumbers (asAnswer count o) ≡ f .number ∷ f .part ∷ [])
+    × ((f : Fault) → o ≡ refused f → answerNumbers (asAnswer count o) ≡ f .number ∷ f .place ∷ [])
 unfolding asAnswer
 outcome-told count o = ((λ a e. accepted-told (ap (asAnswer count) e)), λ f e. refused-told (ap (asAnswer count) e))
 
@@ -68,7 +68,7 @@ judged bs b = go (reading true bs) refl
     go (found ss) e = inl (read-legal bs ss b e)
 
 -- The answer of a refused token.
-pub own-answer : (bs : List ℕ) (f : Fault) → reading true bs ≡ refused f → answer bs ≡ Refused (f .number) (f .part)
+pub own-answer : (bs : List ℕ) (f : Fault) → reading true bs ≡ refused f → answer bs ≡ Refused (f .number) (f .place)
 unfolding answer asAnswer
 own-answer bs f e = ap (asAnswer rowCount) e
 
@@ -103,7 +103,7 @@ module _ (a : Answer) (m s : ℕ) (P Q : Type 0) (h : 22 ≤ m) (not-both : P �
 pub by-legality : (bs : List ℕ) (a : Answer) (m : ℕ) (s : Legal bs → ℕ) (P Q : Legal bs → Type 0) → Bytes bs → 22 ≤ m
     → ((l : Legal bs) → P l → Q l → ⊥)
     → ((l : Legal bs) → Told a m (s l) (P l) (Q l))
-    → ((f : Fault) → reading true bs ≡ refused f → a ≡ Refused (f .number) (f .part))
+    → ((f : Fault) → reading true bs ≡ refused f → a ≡ Refused (f .number) (f .place))
     → ((numberOf a ≡ 0) ↔ ((l : Legal bs) × P l))
     × ((numberOf a ≡ m) ↔ ((l : Legal bs) × Q l))
     × ((l : Legal bs) → secondOf a ≡ s l)

@@ -24,6 +24,10 @@ pub mod Writing
 pub mod Changes
 pub mod Additions
 pub mod Finishing
+pub mod FormRuns
+pub mod RuleIdPlaces
+pub mod LabelPlaces
+pub mod Offsets
 pub mod Numbering
 pub mod GivenNumbers
 pub mod Rows

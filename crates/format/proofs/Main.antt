@@ -12,7 +12,7 @@ use Rattle.format.specs.Bytes.{All, Bytes, bigEndian, number, bytesAt}
 use Rattle.format.specs.Layout.{Fields, write, fits}
 use Rattle.format.specs.Slots.{Slot, slotBytes, fieldsIn}
 use Rattle.format.specs.Parts.{Kind, rule, dates, isSubsection, layout, Part, size, written, writeParts, joins, WrittenForm}
-use Rattle.format.specs.Forms.{dateExists, inOrder}
+use Rattle.format.specs.Forms.{ruleIdForm, ruleIdReach, labelForm, labelReach, dateExists, inOrder}
 use Rattle.format.specs.Rules.{Check, checks, Section, ofKind}
 use Rattle.format.specs.Legal.{Lawful, Complete, Legal, ruleCount, rulesOfAll, joined}
 use Rattle.format.specs.Reading.{Fault, fault, Outcome, refused, found, stated, reading, partsOf, answer}
@@ -20,8 +20,9 @@ use Rattle.format.specs.Table.{Placed, placed, rows, columns, rowNumbers
 use Rattle.format.specs.Views.{fieldAt, view, viewAnswer, nextPlace, stepAt}
 use Rattle.format.specs.GivenNumbers.{numberOf, secondOf, offsetOf, lengthOf, stepNumber, rowKind}
 use Rattle.format.specs.Writer.{writeAnswer, draftAfter, start, addition, finish, dateFields}
-use Rattle.format.specs.Claims.{answerNumbers, stepNumbers, IsRow, Tiles, subsOf, ruleRows, slotsOf, chosenViews, viewsFrom, walk, walkPlace, additions, restate, sectionsEnd, lackingAt}
+use Rattle.format.specs.Claims.{answerNumbers, stepNumbers, IsRow, Tiles, subsOf, ruleRows, slotsOf, chosenViews, viewsFrom, walk, walkPlace, additions, InPart, Stops, restate, sectionsEnd, lackingAt}
 use Rattle.format.specs.Examples.{tokenT, Holds, starred, springToken}
+use Rattle.format.specs.PlaceExamples.{placesRead}
 use Rattle.format.specs.DateExamples.{withDates, datesRead}
 use Rattle.format.specs.declared.Answer.the-variants.{Accepted, Refused}
 use Rattle.format.specs.declared.Step.the-variants.{End, Stopped}
@@ -38,6 +39,8 @@ use Rattle.format.proofs.Walking as Walking
 use Rattle.format.proofs.Writing as Writing
 use Rattle.format.proofs.Additions as Additions
 use Rattle.format.proofs.Finishing as Finishing
+use Rattle.format.proofs.RuleIdPlaces as RuleIdPlaces
+use Rattle.format.proofs.LabelPlaces as LabelPlaces
 use Rattle.format.proofs.Numbering as Numbering
 use Rattle.format.proofs.GivenNumbers as GivenNumbers
 use Rattle.format.proofs.Refusing as Refusing
@@ -120,12 +123,25 @@ legal-not-refused bs l n p e = Tables.legal-not-refused bs l n p e
 pub every-answer : (bs : List ℕ) → ((n : ℕ) × (answer bs ≡ Accepted n)) ⊎ ((n : ℕ) × (p : ℕ) × (answer bs ≡ Refused n p) × (1 ≤ n) × (n ≤ 21))
 every-answer bs = Tables.every-answer bs
 
--- The same of drafts: a refusal's number is from 1 to 21, and its place is within the bytes.
+-- The same of drafts: a refusal's number is from 1 to 21, and its place is within the part at fault; it is that of a byte of the
+-- token, but for 1, given of fewer than eight bytes, and 20, which for the missing section 14 stands at the end.
 pub every-refusal : (full : Bool) (bs : List ℕ) (f : Fault) → reading full bs ≡ refused f
-    → (1 ≤ f .number) × (f .number ≤ 21) × (f .part ≤ length bs)
+    → (1 ≤ f .number) × (f .number ≤ 21) × InPart bs f × (f .place ≤ length bs) × ((f .number ≡ 1 → ⊥) → (f .number ≡ 20 → ⊥) → f .place < length bs)
 every-refusal full bs f e =
-    let n = Numbering.fault-number full bs f e in
-    (n .0, n .1, Numbering.refusal-place full bs f e .1)
+    let p = Numbering.refusal-placed full bs f e in
+    (p .listed .first, p .listed .last, p .listed .inside, p .listed .within, p .before)
+
+-- 02, 107: "for 17 the first byte at which no legal form can continue". Of a Rule ID, and of a label template, that has not its
+-- form: the bytes before the place begin one of that length that has it, and with the byte at the place they begin none.
+pub rule-id-place : (bs : List ℕ) → 1 ≤ length bs → ruleIdForm bs ≡ false → Stops ruleIdForm bs (ruleIdReach bs)
+rule-id-place bs h e = RuleIdPlaces.rule-id-place bs h e
+
+pub label-place : (bs : List ℕ) → 1 ≤ length bs → labelForm bs ≡ false → Stops labelForm bs (labelReach bs)
+label-place bs h e = LabelPlaces.label-place bs h e
+
+-- Where each number points, by examples.
+pub places-by-example : All Holds placesRead
+places-by-example = Examples.places-read
 
 -- "A legal token never has more than 300 rows; that is to be shown."
 pub at-most-300-rows : (bs : List ℕ) (l : Legal bs) → length (rows (l .parts)) ≤ 300
@@ -204,10 +220,10 @@ no-such-row bs l k j h = Viewing.view-no-row bs l k j h
 
 -- "Here and in the walk an illegal token refuses first, with its own number."
 pub illegal-view : (bs : List ℕ) (f : Fault) (k j : ℕ) → reading true bs ≡ refused f
-    → (view bs k j ≡ []) × (viewAnswer bs k j ≡ Refused (f .number) (f .part))
+    → (view bs k j ≡ []) × (viewAnswer bs k j ≡ Refused (f .number) (f .place))
 illegal-view bs f k j e = Viewing.view-refused bs f k j e
 
-pub illegal-step : (bs : List ℕ) (f : Fault) (at : ℕ) → reading true bs ≡ refused f → stepAt bs at ≡ Stopped (f .number) (f .part)
+pub illegal-step : (bs : List ℕ) (f : Fault) (at : ℕ) → reading true bs ≡ refused f → stepAt bs at ≡ Stopped (f .number) (f .place)
 illegal-step bs f at e = Walking.step-refused bs f at e
 
 -- A view in the paper's numbers: 0 exactly where a legal token has the row and the row the field, 22 exactly where one of
@@ -293,7 +309,7 @@ finished-is-legal d n b e = Finishing.finish-legal d n b e
 -- section that lacks one, and for a missing section 14, which comes last, at the token's length.
 pub finish-refuses-with-20 : (d : List ℕ) (n p : ℕ) → Bytes d
     → (finish d ≡ Refused n p)
-    ↔ (((f : Fault) × (reading false d ≡ refused f) × (n ≡ f .number) × (p ≡ f .part))
+    ↔ (((f : Fault) × (reading false d ≡ refused f) × (n ≡ f .number) × (p ≡ f .place))
     ⊎ ((ss : List Section)
     × (reading false d ≡ found ss)
     × (Complete (partsOf ss) → ⊥)
@@ -308,7 +324,7 @@ pub finish-in-numbers : (d : List ℕ) → Bytes d
     × (Legal (take (stated d) d) → secondOf (finish d) ≡ stated d)
     × ((numberOf (finish d) ≡ 20) ↔ ((ss : List Section) × (reading false d ≡ found ss) × (Complete (partsOf ss) → ⊥)))
     × ((ss : List Section) → reading false d ≡ found ss → (Complete (partsOf ss) → ⊥) → secondOf (finish d) ≡ lackingAt (stated d) 8 ss)
-    × ((f : Fault) → reading false d ≡ refused f → answerNumbers (finish d) ≡ f .number ∷ f .part ∷ [])
+    × ((f : Fault) → reading false d ≡ refused f → answerNumbers (finish d) ≡ f .number ∷ f .place ∷ [])
 finish-in-numbers d b = Finishing.finish-numbers d b
 
 -- "Its first L bytes [..] read as a token under all rules but 20": a draft's own fault is never 20.
@@ -320,19 +336,19 @@ pub own-fault-first : (k : Kind) (fs : Fields) (d : List ℕ) (f : Fault) → re
 own-fault-first k fs d f e = Refusing.own-fault-first k fs d f e
 
 pub then-24-25-23 : (p : Part) (d : List ℕ) (ss : List Section) → reading false d ≡ found ss
-    → (fits [] (layout (p .kind)) (p .fields) ≡ false → addition (p .kind) (p .fields) d ≡ refused (fault 24 (stated d) 0))
+    → (fits [] (layout (p .kind)) (p .fields) ≡ false → addition (p .kind) (p .fields) d ≡ refused (fault 24 (stated d) (stated d)))
     × (fits [] (layout (p .kind)) (p .fields) ≡ true → joins 0 (partsOf ss ++ p ∷ []) ≡ false
-    → addition (p .kind) (p .fields) d ≡ refused (fault 25 (stated d) 0))
+    → addition (p .kind) (p .fields) d ≡ refused (fault 25 (stated d) (stated d)))
     × (fits [] (layout (p .kind)) (p .fields) ≡ true → joins 0 (partsOf ss ++ p ∷ []) ≡ true
     → (leb (stated d + size p) 3500 && leb (stated d + size p) (length d)) ≡ false
-    → addition (p .kind) (p .fields) d ≡ refused (fault 23 (stated d) 0))
+    → addition (p .kind) (p .fields) d ≡ refused (fault 23 (stated d) (stated d)))
 then-24-25-23 p d ss e =
     (Refusing.lengths-first (p .kind) (p .fields) d ss e, Refusing.joining-next (p .kind) (p .fields) d ss e, Refusing.room-last (p .kind) (p .fields) d ss e)
 
 -- In the paper's numbers: a start or an addition gives 0 and the draft's length, or the refusal's number and place.
 pub writing-in-numbers : (o : Outcome (List ℕ))
     → ((bs : List ℕ) → o ≡ found bs → answerNumbers (writeAnswer o) ≡ 0 ∷ length bs ∷ [])
-    × ((f : Fault) → o ≡ refused f → answerNumbers (writeAnswer o) ≡ f .number ∷ f .part ∷ [])
+    × ((f : Fault) → o ≡ refused f → answerNumbers (writeAnswer o) ≡ f .number ∷ f .place ∷ [])
 writing-in-numbers o = GivenNumbers.outcome-told length o
 
 -- "Adding the parts of any legal token in their order, to a draft newly started with its identifier and with room, gives
@@ -408,7 +424,7 @@ pub starred-examples : All Holds starred
 starred-examples = Examples.starred-hold
 
 -- "A rule section stated a length shorter than its subsections": such a block is refused, at the subsection.
-pub spring-refused : answer springToken ≡ Refused 12 100
+pub spring-refused : answer springToken ≡ Refused 12 102
 spring-refused = Examples.spring-refused
 
 -- "a reader that refuses everything (a legal token exists)".

@@ -27,25 +27,25 @@ plain (fixed n ∷ l) = plain l
 plain (counted s ∷ l) = plain l
 
 -- The tests of what is always 0 say that the slots hold what they must.
-zeros-laid : (l : List Item) (t : ℕ) (ns r : List ℕ) (o j : ℕ) → plain l ≡ true → Hold (zeroChecks j r (slots ns l r o))
+zeros-laid : (l : List Item) (t : ℕ) (ns r : List ℕ) (o : ℕ) → plain l ≡ true → Hold (zeroChecks r (slots ns l r o))
     → Laid t r (slots ns l r o)
-zeros-laid [] t ns r o j p h = tt
-zeros-laid (code w v ∷ l) t ns r o j p h = absurd (let z : _≡_ {A = ℕ} 0 1 = cc in omega arith)
-zeros-laid (zeros n q ∷ l) t ns r o j p h = (h .0, zeros-laid l t ns r (o + n) (suc j) p (h .1))
-zeros-laid (own w ∷ l) t ns r o j p h = absurd (let z : _≡_ {A = ℕ} 0 1 = cc in omega arith)
-zeros-laid (count w k ∷ l) t ns r o j p h = (tt, zeros-laid l t _ r (o + w) (suc j) p h)
-zeros-laid (fixed n ∷ l) t ns r o j p h = (tt, zeros-laid l t ns r (o + n) (suc j) p h)
-zeros-laid (counted s ∷ l) t ns r o j p h = (tt, zeros-laid l t ns r (o + getD ns s 0) (suc j) p h)
+zeros-laid [] t ns r o p h = tt
+zeros-laid (code w v ∷ l) t ns r o p h = absurd (let z : _≡_ {A = ℕ} 0 1 = cc in omega arith)
+zeros-laid (zeros n q ∷ l) t ns r o p h = (h .0, zeros-laid l t ns r (o + n) p (h .1))
+zeros-laid (own w ∷ l) t ns r o p h = absurd (let z : _≡_ {A = ℕ} 0 1 = cc in omega arith)
+zeros-laid (count w k ∷ l) t ns r o p h = (tt, zeros-laid l t _ r (o + w) p h)
+zeros-laid (fixed n ∷ l) t ns r o p h = (tt, zeros-laid l t ns r (o + n) p h)
+zeros-laid (counted s ∷ l) t ns r o p h = (tt, zeros-laid l t ns r (o + getD ns s 0) p h)
 
 -- Slots that hold what they must pass these tests.
-laid-zeros : (l : List Item) (t : ℕ) (ns r : List ℕ) (o j : ℕ) → Laid t r (slots ns l r o) → Hold (zeroChecks j r (slots ns l r o))
-laid-zeros [] t ns r o j d = tt
-laid-zeros (code w v ∷ l) t ns r o j d = laid-zeros l t ns r (o + w) (suc j) (d .1)
-laid-zeros (zeros n q ∷ l) t ns r o j d = (d .0, laid-zeros l t ns r (o + n) (suc j) (d .1))
-laid-zeros (own w ∷ l) t ns r o j d = laid-zeros l t ns r (o + w) (suc j) (d .1)
-laid-zeros (count w k ∷ l) t ns r o j d = laid-zeros l t _ r (o + w) (suc j) (d .1)
-laid-zeros (fixed n ∷ l) t ns r o j d = laid-zeros l t ns r (o + n) (suc j) (d .1)
-laid-zeros (counted s ∷ l) t ns r o j d = laid-zeros l t ns r (o + getD ns s 0) (suc j) (d .1)
+laid-zeros : (l : List Item) (t : ℕ) (ns r : List ℕ) (o : ℕ) → Laid t r (slots ns l r o) → Hold (zeroChecks r (slots ns l r o))
+laid-zeros [] t ns r o d = tt
+laid-zeros (code w v ∷ l) t ns r o d = laid-zeros l t ns r (o + w) (d .1)
+laid-zeros (zeros n q ∷ l) t ns r o d = (d .0, laid-zeros l t ns r (o + n) (d .1))
+laid-zeros (own w ∷ l) t ns r o d = laid-zeros l t ns r (o + w) (d .1)
+laid-zeros (count w k ∷ l) t ns r o d = laid-zeros l t _ r (o + w) (d .1)
+laid-zeros (fixed n ∷ l) t ns r o d = laid-zeros l t ns r (o + n) (d .1)
+laid-zeros (counted s ∷ l) t ns r o d = laid-zeros l t ns r (o + getD ns s 0) (d .1)
 
 -- Every kind's layout is sound, and its body plain.
 layout-sound : (k : Kind) → sound 0 (layout k) ≡ true
@@ -84,12 +84,12 @@ frame-fields true i g l r = (refl, refl)
 
 -- Bytes that pass the tests of a part of t bytes are its written form, and what follows; the fields fit.
 pub part-written : (k : Kind) (t : ℕ) (r : List ℕ) → Bytes r → Framed (isSubsection k) (sectionId k) (tag k) t r
-    → Hold (zeroChecks 3 r (bodySlots k r)) → madeLength k r ≤ length r
+    → Hold (zeroChecks r (bodySlots k r)) → madeLength k r ≤ length r
     → Fits t [] (layout k) (partIn k r .fields)
     × (write t (layout k) (partIn k r .fields) ++ drop (madeLength k r) r ≡ r)
 part-written k t r b f h e =
     let g = frame-fields (isSubsection k) (sectionId k) (tag k) (body k) r in
-    let z = zeros-laid (body k) t [] r (frameLength k) 3 (body-plain k) h in
+    let z = zeros-laid (body k) t [] r (frameLength k) (body-plain k) h in
     let d = frame-laid (isSubsection k) (sectionId k) (tag k) t (body k) r f z in
     let w = laid-written (layout k) t [] r 0 (layout-sound k) b (rw (g .1) e) d in
     subst
@@ -101,7 +101,7 @@ part-written k t r b f h e =
 pub part-read : (p : Part) (t : ℕ) (r z : List ℕ) → Fits t [] (layout (p .kind)) (p .fields)
     → r ≡ write t (layout (p .kind)) (p .fields) ++ z
     → Framed (isSubsection (p .kind)) (sectionId (p .kind)) (tag (p .kind)) t r
-    × Hold (zeroChecks 3 r (bodySlots (p .kind) r))
+    × Hold (zeroChecks r (bodySlots (p .kind) r))
     × (partIn (p .kind) r ≡ p)
     × (madeLength (p .kind) r ≡ size p)
 part-read p t r z f e =
@@ -111,7 +111,7 @@ part-read p t r z f e =
     let l = laid-frame (isSubsection k) (sectionId k) (tag k) t (body k) r (i .0) in
     let n : 0 + length (write t (layout k) (p .fields)) ≡ length (write t (layout k) (p .fields)) = omega arith in (
       l .0,
-      laid-zeros (body k) t [] r (frameLength k) 3 (l .1),
+      laid-zeros (body k) t [] r (frameLength k) (l .1),
       ap {B = Part} (λ (fs : Fields). record { kind = k; fields = fs }) (sym (g .0) ∙ i .1),
       sym (g .1) ∙ i .2 ∙ n ∙ size-any (layout k) t 0 (p .fields),
     )

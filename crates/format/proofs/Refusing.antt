@@ -21,20 +21,20 @@ own-fault-first k fs d f e = then-refused _ e
 
 module _ (k : Kind) (fs : Fields) (d : List ℕ) (ss : List Section) (e : reading false d ≡ found ss) where
   -- Then 24, whatever else holds,
-  pub lengths-first : fits [] (layout k) fs ≡ false → addition k fs d ≡ refused (fault 24 (stated d) 0)
+  pub lengths-first : fits [] (layout k) fs ≡ false → addition k fs d ≡ refused (fault 24 (stated d) (stated d))
   unfolding addition
   lengths-first a = then-found _ e ∙ need-failed (fits [] (layout k) fs) _ _ a
 
   -- then 25,
   pub joining-next : fits [] (layout k) fs ≡ true → joins 0 (partsOf ss ++ record { kind = k; fields = fs } ∷ []) ≡ false
-      → addition k fs d ≡ refused (fault 25 (stated d) 0)
+      → addition k fs d ≡ refused (fault 25 (stated d) (stated d))
   unfolding addition
   joining-next a b = then-found _ e ∙ need-passed (fits [] (layout k) fs) _ _ a ∙ need-failed (joins 0 (partsOf ss ++ record { kind = k; fields = fs } ∷ [])) _ _ b
 
   -- then 23.
   pub room-last : fits [] (layout k) fs ≡ true → joins 0 (partsOf ss ++ record { kind = k; fields = fs } ∷ []) ≡ true
       → (leb (stated d + size (record { kind = k; fields = fs })) 3500 && leb (stated d + size (record { kind = k; fields = fs })) (length d)) ≡ false
-      → addition k fs d ≡ refused (fault 23 (stated d) 0)
+      → addition k fs d ≡ refused (fault 23 (stated d) (stated d))
   unfolding addition
   room-last a b c =
       then-found _ e

@@ -16,14 +16,14 @@ use Rattle.format.specs.Parts.{Kind, rule, information, sectionId, tag, 
 use Rattle.format.specs.Reading.{frameLength, sectionKind, subsectionKind}
 use Rattle.format.specs.Rules.{checks, Section, has, sameRuleId, mayBothStand, otherKind, maskCovers, hasRequired}
 use Rattle.format.specs.Legal.{Pairwise}
-use Rattle.format.specs.Reading.{Outcome, refused, found, fault, idOf, stated, bodySlots, madeLength, partIn, zeroChecks, fieldChecks}
+use Rattle.format.specs.Reading.{Outcome, refused, found, fault, idOf, stated, bodySlots, madeLength, partIn, zeroChecks, located, fieldChecks}
 use Rattle.format.specs.Reading.{tested, subsectionChecks, subsection, subsections, holdsSubs, kindBefore, ruleBefore, sectionChecks}
 use Rattle.format.specs.Reading.{afterSubsections, sectionRest, section, sections, partsOf}
 use Rattle.format.proofs.Numbers.{bytes-take, bytes-drop, same-sym}
 use Rattle.format.proofs.Finding.{and-split, sameKind-eq, sectionKind-sound, subsectionKind-sound}
 use Rattle.format.proofs.Fitting.{Fits-fits}
 use Rattle.format.proofs.Unique.{size-any, size-pos}
-use Rattle.format.proofs.Tests.{refused-not, found-inj, needed, followed, Hold, tests-passed, hold-split}
+use Rattle.format.proofs.Tests.{refused-not, found-inj, needed, followed, Hold, tests-passed, hold-split, Kept, located-kept}
 use Rattle.format.proofs.PartForm.{Framed, part-written}
 use Rattle.format.proofs.Grouping.{all-join, Subs, parts-then-section, span-sub, span-section, subs-then-parts, subs-long, parts-last}
 
@@ -33,7 +33,7 @@ use Rattle.format.proofs.Grouping.{all-join, Subs, parts-then-section, 
 pub record GoodPart (x : Bool) (p : Part) : Type 0 where
   pub fit : fits [] (layout (p .kind)) (p .fields) ≡ true
   pub bytes : All Bytes (p .fields)
-  pub kept : Hold (checks x (p .kind) (p .fields))
+  pub kept : Kept (checks x (p .kind) (p .fields))
 
 -- The part is a subsection of a section of kind o.
 pub record GoodSub (x : Bool) (o : Kind) (p : Part) : Type 0 where
@@ -122,7 +122,7 @@ sub-known x o k before at n r p q h b e =
     let s = subsectionKind-sound o (number (bytesAt r 0 2)) k q in
     let c = t .0 in
     let w = and-split (leb (least (layout k)) (stated r)) (leb (stated r) n) (c .0) in
-    let fs = hold-split (zeroChecks 3 r (bodySlots k r)) (checks x k (partIn k r .fields)) (c .1 .1 .1 .1) in
+    let fs = hold-split (zeroChecks r (bodySlots k r)) (located (slots [] (layout k) r 0) (checks x k (partIn k r .fields))) (c .1 .1 .1 .1) in
     let ends : stated r ≤ n = leb-true (stated r) n (w .1) in
     let made : madeLength k r ≡ stated r = eqb-true (madeLength k r) (stated r) (c .1 .1 .1 .0) in
     let framed : Framed (isSubsection k) (sectionId k) (tag k) (stated r) r =
@@ -131,7 +131,7 @@ sub-known x o k before at n r p q h b e =
     let long = written-size k (stated r) r (omega arith) (pw .1) in
     subst (λ (y : Part). SubRead x o before n r y) (found-inj (t .1))
     (record {
-      good = record { sub = s .0; owner = s .1; part = record { fit = Fits-fits (layout k) (stated r) [] _ (pw .0); bytes = fields-bytes (body k) [] r (frameLength k) b; kept = fs .1 } };
+      good = record { sub = s .0; owner = s .1; part = record { fit = Fits-fits (layout k) (stated r) [] _ (pw .0); bytes = fields-bytes (body k) [] r (frameLength k) b; kept = located-kept (slots [] (layout k) r 0) (checks x k (partIn k r .fields)) (fs .1) } };
       new = others k (partIn k r) before refl (not-true (has k before) (c .1 .0));
       long = sym (long ∙ made);
       ends = ends;
@@ -144,7 +144,7 @@ unfolding subsection
 sub-read x o before at n r p h b e = go (subsectionKind o (number (bytesAt r 0 2))) refl (needed _ _ _ p e .1)
   where
     go : (m : Option Kind) → subsectionKind o (number (bytesAt r 0 2)) ≡ m
-        → elim m as (λ k. Outcome Part) [ none ↦ refused (fault 13 at 0) | some k ↦ tested at (subsectionChecks x k (has k before) n r) (found (partIn k r)) ] ≡ found p
+        → elim m as (λ k. Outcome Part) [ none ↦ refused (fault 13 at at) | some k ↦ tested at (subsectionChecks x k (has k before) n r) (found (partIn k r)) ] ≡ found p
         → SubRead x o before n r p
     go none q w = absurd (refused-not w)
     go (some k) q w = sub-known x o k before at n r p q h b w
@@ -309,7 +309,7 @@ section-known full x k before at r s q h b e =
     let lo : least (layout k) ≤ stated r = leb-true (least (layout k)) (stated r) (w .0) in
     let ends : stated r ≤ length r = leb-true (stated r) (length r) (w .1) in
     let fc = hold-split (fieldChecks x k r) _ (c .1 .1 .1 .1) in
-    let fs = hold-split (zeroChecks 3 r (bodySlots k r)) (checks x k (partIn k r .fields)) (fc .0) in
+    let fs = hold-split (zeroChecks r (bodySlots k r)) (located (slots [] (layout k) r 0) (checks x k (partIn k r .fields))) (fc .0) in
     let framed : Framed (isSubsection k) (sectionId k) (tag k) (stated r) r =
     subst (λ (y : Bool). Framed y (sectionId k) (tag k) (stated r) r) (sym (id .0)) (sym (id .1), c .0, refl) in
     let ml = made-le k r lo (c .1 .1 .1 .0) in
@@ -328,7 +328,7 @@ section-known full x k before at r s q h b e =
     (record {
       good = record {
         head = id .0;
-        part = record { fit = Fits-fits (layout k) (stated r) [] _ (pw .0); bytes = fields-bytes (body k) [] r (frameLength k) b; kept = fs .1 };
+        part = record { fit = Fits-fits (layout k) (stated r) [] _ (pw .0); bytes = fields-bytes (body k) [] r (frameLength k) b; kept = located-kept (slots [] (layout k) r 0) (checks x k (partIn k r .fields)) (fs .1) };
         subs = su .0 .0;
         tags = su .0 .1;
         masks = n1 .0;
@@ -349,7 +349,7 @@ section-read full x before at r s b e =
   where
     go : 4 ≤ length r → (m : Option Kind) → sectionKind (idOf r) ≡ m
         → elim m as (λ k. Outcome Section) [
-          | none ↦ refused (fault 7 at 0)
+          | none ↦ refused (fault 7 at at)
           | some k ↦ tested at (sectionChecks x k (kindBefore k before) (ruleBefore (partIn k r) before) r) (sectionRest full x k at r)
         ] ≡ found s
         → SectionRead full x before r s

@@ -12,7 +12,7 @@ use Rattle.format.specs.Bytes.{Bytes}
 use Rattle.format.specs.Parts.{Part}
 use Rattle.format.specs.Rules.{Section, sectionsOf}
 use Rattle.format.specs.Legal.{Legal}
-use Rattle.format.specs.Reading.{Fault, Outcome, refused, found, fault, need, andThen, place, reading, partsOf, rowCount, asAnswer, answer}
+use Rattle.format.specs.Reading.{Fault, Outcome, refused, found, fault, need, andThen, reading, partsOf, rowCount, asAnswer, answer}
 use Rattle.format.specs.Table.{rows, columns, tableOf, roomFor, tableReading, tableAnswer, tableAfter}
 use Rattle.format.specs.GivenNumbers.{numberOf, secondOf}
 use Rattle.format.specs.Claims.{answerNumbers}
@@ -21,7 +21,7 @@ use Rattle.format.specs.declared.Answer.the-variants.{Accepted, Refused}
 use Rattle.format.proofs.Tests.{found-inj, needed, need-passed, followed, then-found, then-refused}
 use Rattle.format.proofs.Accepted.{legal-read}
 use Rattle.format.proofs.Writing.{told-accepted, told-found}
-use Rattle.format.proofs.Numbering.{refusal-number, fault-number, refusal-place}
+use Rattle.format.proofs.Numbering.{refusal-number, fault-number, place-within}
 use Rattle.format.proofs.GivenNumbers.{accepted-told, refused-told, other-told, first, second, own-answer, illegal, Told, by-legality}
 use Rattle.format.proofs.Rows.{row-count}
 use Rattle.format.proofs.Viewing.{legal-parts, read-parts}
@@ -85,7 +85,7 @@ reading-numbers bs b = (
       let n = first t in
       let p = second t in
       let m = fault-number true bs (u .0) (u .1) in
-      let q = refusal-place true bs (u .0) (u .1) .1 in
+      let q = place-within true bs (u .0) (u .1) in
       (omega (arith, m), omega (arith, m), omega arith),
 )
 
@@ -94,18 +94,18 @@ reading-numbers bs b = (
 -- The reading of a legal token into a table is the test of its room.
 legal-into : (bs t : List ℕ) (l : Legal bs)
     → tableReading bs t
-    ≡ need (leb (columns * length (rows (l .parts))) (length t)) (fault 23 (length (rows (l .parts))) 0) (found (sectionsOf (l .parts)))
+    ≡ need (leb (columns * length (rows (l .parts))) (length t)) (fault 23 (length (rows (l .parts))) (length (rows (l .parts)))) (found (sectionsOf (l .parts)))
 unfolding tableReading
 legal-into bs t l =
     then-found _ (legal-read bs l)
-    ∙ ap (λ (n : ℕ). need (leb (columns * n) (length t)) (fault 23 n 0) (found (sectionsOf (l .parts)))) (counts bs l)
+    ∙ ap (λ (n : ℕ). need (leb (columns * n) (length t)) (fault 23 n n) (found (sectionsOf (l .parts)))) (counts bs l)
 
 -- Where it has room it is accepted, and else refused with 23 and the rows needed.
 room : (bs t : List ℕ) (l : Legal bs) → columns * length (rows (l .parts)) ≤ length t → tableReading bs t ≡ found (sectionsOf (l .parts))
 room bs t l h = legal-into bs t l ∙ need-passed _ _ _ (le-leb _ _ h)
 
 cramped : (bs t : List ℕ) (l : Legal bs) → length t < columns * length (rows (l .parts))
-    → tableReading bs t ≡ refused (fault 23 (length (rows (l .parts))) 0)
+    → tableReading bs t ≡ refused (fault 23 (length (rows (l .parts))) (length (rows (l .parts))))
 unfolding need
 cramped bs t l h = legal-into bs t l ∙ rw (lt-leb (columns * length (rows (l .parts))) (length t) h)
 
@@ -114,7 +114,7 @@ pub table-exactly : (bs t : List ℕ) (n : ℕ) → Bytes bs
 unfolding tableAnswer tableReading
 table-exactly bs t n b = (
   (λ e.
-      let a = told-accepted rowCount (andThen (reading true bs) (λ ss. need (roomFor (partsOf ss) t) (fault 23 (rowCount ss) 0) (found ss))) n e in
+      let a = told-accepted rowCount (andThen (reading true bs) (λ ss. need (roomFor (partsOf ss) t) (fault 23 (rowCount ss) (rowCount ss)) (found ss))) n e in
       let f = followed (reading true bs) _ (a .0) (a .1) in
       let q = needed (roomFor (partsOf (f .0)) t) _ _ (a .0) (f .2) in
       let same : rowCount (f .0) ≡ n = ap rowCount (found-inj (q .1)) ∙ a .2 in
@@ -146,19 +146,19 @@ table-holds bs t l h =
     ∙ ap₂ (λ (ps : List Part) (n : ℕ). tableOf (rows ps) ++ drop (columns * n) t) (legal-parts bs l) (counts bs l)
 
 -- The refusal 23 is the table's alone: it comes where a token is legal and its rows have no room.
-told-refused : (o : Outcome (List Section)) (n p : ℕ) → asAnswer rowCount o ≡ Refused n p → (f : Fault) × (o ≡ refused f) × (f .number ≡ n) × (place f ≡ p)
+told-refused : (o : Outcome (List Section)) (n p : ℕ) → asAnswer rowCount o ≡ Refused n p → (f : Fault) × (o ≡ refused f) × (f .number ≡ n) × (f .place ≡ p)
 unfolding asAnswer
 told-refused (refused f) n p e = (f, refl, cc, cc)
 told-refused (found ss) n p e = absurd (let z : _≡_ {A = ℕ} 0 1 = cc in omega arith)
 
-short : (b : Bool) (m l n : ℕ) (ss : List Section) → leb m l ≡ b → asAnswer rowCount (need b (fault 23 (rowCount ss) 0) (found ss)) ≡ Refused 23 n
+short : (b : Bool) (m l n : ℕ) (ss : List Section) → leb m l ≡ b → asAnswer rowCount (need b (fault 23 (rowCount ss) (rowCount ss)) (found ss)) ≡ Refused 23 n
     → (l < m) × (rowCount ss ≡ n)
 unfolding asAnswer need
 short true m l n ss q e = absurd (let z : _≡_ {A = ℕ} 0 1 = cc in omega arith)
 short false m l n ss q e = (leb-false m l q, cc)
 
 lacks : (bs t : List ℕ) (n : ℕ) → Bytes bs → (o : Outcome (List Section)) → reading true bs ≡ o
-    → asAnswer rowCount (andThen o (λ ss. need (roomFor (partsOf ss) t) (fault 23 (rowCount ss) 0) (found ss))) ≡ Refused 23 n
+    → asAnswer rowCount (andThen o (λ ss. need (roomFor (partsOf ss) t) (fault 23 (rowCount ss) (rowCount ss)) (found ss))) ≡ Refused 23 n
     → (l : Legal bs) × (n ≡ length (rows (l .parts))) × (length t < columns * n)
 unfolding andThen
 lacks bs t n b (refused f) q e =
@@ -202,7 +202,7 @@ legal-table bs t b l = go (leb (columns * length (rows (l .parts))) (length t)) 
         let h = leb-false (columns * length (rows (l .parts))) (length t) q in
         inr (h, refused-told (no-room bs t (length (rows (l .parts))) b .1 (l, refl, h)))
 
-own-table : (bs t : List ℕ) (f : Fault) → reading true bs ≡ refused f → tableAnswer bs t ≡ Refused (f .number) (f .part)
+own-table : (bs t : List ℕ) (f : Fault) → reading true bs ≡ refused f → tableAnswer bs t ≡ Refused (f .number) (f .place)
 unfolding tableAnswer tableReading asAnswer
 own-table bs t f e = ap (asAnswer rowCount) (then-refused _ e)
 

@@ -6,7 +6,8 @@ use Prim.Native.Nat.{ℕ}
 use native.Mathlib.Omega.{arith}
 use Rattle.format.specs.Bytes.{All}
 use Rattle.format.specs.Rules.{Check}
-use Rattle.format.specs.Reading.{Fault, Outcome, refused, found, need, andThen, tested}
+use Rattle.format.specs.Slots.{Slot}
+use Rattle.format.specs.Reading.{Fault, Outcome, refused, found, need, andThen, Test, tested, located}
 
 -- A refusal finds nothing.
 pub refused-not : {A : Type 0} {f : Fault} {a : A} → refused f ≡ found a → ⊥
@@ -50,11 +51,11 @@ unfolding andThen
 then-refused next e = rw e
 
 -- Each test of the list passes.
-abbrev pub Hold : List Check → Type 0
-Hold cs = All (λ (c : Check). c .holds ≡ true) cs
+abbrev pub Hold : List Test → Type 0
+Hold cs = All (λ (c : Test). c .holds ≡ true) cs
 
 -- Where something is found after a list of tests, all have passed.
-pub tests-passed : {A : Type 0} (at : ℕ) (cs : List Check) (rest : Outcome A) (a : A) → tested at cs rest ≡ found a
+pub tests-passed : {A : Type 0} (at : ℕ) (cs : List Test) (rest : Outcome A) (a : A) → tested at cs rest ≡ found a
     → Hold cs × (rest ≡ found a)
 unfolding tested
 tests-passed at [] rest a e = (tt, e)
@@ -64,16 +65,29 @@ tests-passed at (c ∷ cs) rest a e =
     ((n .0, i .0), i .1)
 
 -- Passed tests lead to the rest.
-pub tests-lead : {A : Type 0} (at : ℕ) (cs : List Check) (rest : Outcome A) → Hold cs → tested at cs rest ≡ rest
+pub tests-lead : {A : Type 0} (at : ℕ) (cs : List Test) (rest : Outcome A) → Hold cs → tested at cs rest ≡ rest
 unfolding tested
 tests-lead at [] rest h = refl
 tests-lead at (c ∷ cs) rest h = need-passed (c .holds) _ _ (h .0) ∙ tests-lead at cs rest (h .1)
 
 -- Two lists pass together exactly when each does.
-pub hold-split : (cs ds : List Check) → Hold (cs ++ ds) → Hold cs × Hold ds
+pub hold-split : (cs ds : List Test) → Hold (cs ++ ds) → Hold cs × Hold ds
 hold-split [] ds h = (tt, h)
 hold-split (c ∷ cs) ds h = let i = hold-split cs ds (h .1) in ((h .0, i .0), i .1)
 
-pub hold-join : (cs ds : List Check) → Hold cs → Hold ds → Hold (cs ++ ds)
+pub hold-join : (cs ds : List Test) → Hold cs → Hold ds → Hold (cs ++ ds)
 hold-join [] ds h k = k
 hold-join (c ∷ cs) ds h k = (h .0, hold-join cs ds (h .1) k)
+
+-- Each rule of the list is kept.
+abbrev pub Kept : List Check → Type 0
+Kept cs = All (λ (c : Check). c .holds ≡ true) cs
+
+-- The rules on fields pass as tests exactly when they are kept.
+pub kept-located : (ss : List Slot) (cs : List Check) → Kept cs → Hold (located ss cs)
+kept-located ss [] h = tt
+kept-located ss (c ∷ cs) h = (h .0, kept-located ss cs (h .1))
+
+pub located-kept : (ss : List Slot) (cs : List Check) → Hold (located ss cs) → Kept cs
+located-kept ss [] h = tt
+located-kept ss (c ∷ cs) h = (h .0, located-kept ss cs (h .1))

@@ -51,7 +51,7 @@ sub-step x o before at n r p e = go (subsectionKind o (number (bytesAt r 0 2))) 
   where
     go : (m : Option Kind)
         → elim m as (λ k. Outcome Part) [
-          | none ↦ refused (fault 13 at 0)
+          | none ↦ refused (fault 13 at at)
           | some k ↦ tested at (subsectionChecks x k (has k before) n r) (found (partIn k r))
         ] ≡ found p
         → (4 ≤ stated r) × (stated r ≤ n)
@@ -110,7 +110,7 @@ section-step full x before at r s e = go (sectionKind (idOf r)) (needed (leb 4 (
   where
     go : (m : Option Kind)
         → elim m as (λ k. Outcome Section) [
-          | none ↦ refused (fault 7 at 0)
+          | none ↦ refused (fault 7 at at)
           | some k ↦ tested at (sectionChecks x k (kindBefore k before) (ruleBefore (partIn k r) before) r) (sectionRest full x k at r)
         ] ≡ found s
         → (4 ≤ stated r) × (stated r ≤ length r)
@@ -145,7 +145,7 @@ sections-from d full x before at r h = sections-turns d (suc (length r)) full x 
 
 -- Where no byte is left, what came before is found, if section 14 is there.
 pub sections-none : (full x : Bool) (before : List Section) (at : ℕ) (r : List ℕ) → length r ≡ 0
-    → sectionsFrom full x before at r ≡ need (not full || kindBefore information before) (fault 20 at 0) (found before)
+    → sectionsFrom full x before at r ≡ need (not full || kindBefore information before) (fault 20 at at) (found before)
 unfolding sectionsFrom sections
 sections-none full x before at [] h = refl
 sections-none full x before at (b ∷ bs) h = absurd (omega arith)

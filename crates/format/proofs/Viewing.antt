@@ -83,7 +83,7 @@ no-row bs l k j h =
 
 -- Of an illegal token no field lies anywhere.
 pub no-token : (bs : List ℕ) (f : Fault) (k j : ℕ) → reading true bs ≡ refused f
-    → fieldAt bs k j ≡ Missing (f .number) (f .part)
+    → fieldAt bs k j ≡ Missing (f .number) (f .place)
 unfolding fieldAt
 no-token bs f k j e = rw (e, fieldAt)
 
@@ -198,8 +198,8 @@ view-no-row bs l k j h = missing bs k j 22 0 (no-row bs l k j h)
 
 -- Of an illegal token there is no view, and the partner question gives the reading's refusal.
 pub view-refused : (bs : List ℕ) (f : Fault) (k j : ℕ) → reading true bs ≡ refused f
-    → (view bs k j ≡ []) × (viewAnswer bs k j ≡ Refused (f .number) (f .part))
-view-refused bs f k j e = missing bs k j (f .number) (f .part) (no-token bs f k j e)
+    → (view bs k j ≡ []) × (viewAnswer bs k j ≡ Refused (f .number) (f .place))
+view-refused bs f k j e = missing bs k j (f .number) (f .place) (no-token bs f k j e)
 
 -- What lies somewhere lies at one place, with one width.
 at-inj : {a b o n : ℕ} → At a b ≡ At o n → (a ≡ o) × (b ≡ n)

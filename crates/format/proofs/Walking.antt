@@ -75,7 +75,7 @@ step-nowhere bs l at h n = step-legal bs l at ∙ step-elsewhere (length bs) (pl
 
 -- In an illegal token every step gives the reading's refusal.
 pub step-refused : (bs : List ℕ) (f : Fault) (at : ℕ) → reading true bs ≡ refused f
-    → stepAt bs at ≡ Stopped (f .number) (f .part)
+    → stepAt bs at ≡ Stopped (f .number) (f .place)
 unfolding stepAt
 step-refused bs f at e = rw (e, stepAt)
 

@@ -1,19 +1,20 @@
 -- What the theorems of proofs/Main speak of beyond the definitions of the format; each comment names those that use it.
 -- Beside proofs/Main. `set l k x` is l with x for element k; in Main `(x : A) × B` says that there is an x with B.
 use mathlib.Core.Path.{_≡_}
-use mathlib.Core.Bool.{true, false}
+use mathlib.Core.Bool.{Bool, true, false}
 use mathlib.Core.List.{List, [], _∷_, _++_}
 use mathlib.Core.Option.{some}
-use Prim.Native.Nat.{ℕ, zero, suc, _+_, _/_, _%_}
+use mathlib.Core.Logic.{_⊎_}
+use Prim.Native.Nat.{ℕ, zero, suc, _+_, _/_, _%_, _≤_, _<_}
 use lib.Dec.{eqb}
-use lib.ListN.{length, drop, set, getElem?}
+use lib.ListN.{length, take, drop, set, getElem?}
 use Rattle.format.specs.Bytes.{howMany}
 use Rattle.format.specs.Layout.{Item, code, zeros, own, count, fixed, counted, Fields}
 use Rattle.format.specs.Slots.{Slot, slots}
 use Rattle.format.specs.Parts.{Part, isSubsection, layout, size, writeParts}
 use Rattle.format.specs.Rules.{Section, frontSubs, hasRequired}
 use Rattle.format.specs.Legal.{Legal}
-use Rattle.format.specs.Reading.{Outcome, found, andThen, partsOf}
+use Rattle.format.specs.Reading.{Fault, Outcome, found, andThen, stated, partsOf}
 use Rattle.format.specs.Table.{Placed, placed}
 use Rattle.format.specs.Views.{view, stepAt, placeAfter}
 use Rattle.format.specs.GivenNumbers.{numberOf, secondOf, stepNumber, stepSecond, rowKind, rowOffset, rowLength, rowOwner, nextOf}
@@ -95,6 +96,19 @@ walkPlace (suc d) bs at = walkPlace d bs (placeAfter at (stepAt bs at))
 unfoldable pub additions : List Part → List ℕ → Outcome (List ℕ)
 additions [] d = found d
 additions (p ∷ ps) d = andThen (addition (p .kind) (p .fields) d) (λ bs. additions ps (draftAfter (found bs) d))
+
+-- The place of a refusal is within the part at fault: one of the four bytes that hold its id or tag and its length, or before
+-- the end that it states. In `every-refusal`.
+abbrev pub InPart : List ℕ → Fault → Type 0
+InPart bs f = (f .part ≤ f .place) × ((f .place < f .part + 4) ⊎ (f .place < f .part + stated (drop (f .part) bs)))
+
+-- The first n bytes of these can be gone on with to as many that have the form, and n bytes and one cannot, however many follow.
+-- In `rule-id-place`, `label-place`.
+abbrev pub Stops : (List ℕ → Bool) → List ℕ → ℕ → Type 0
+Stops form bs n =
+    (n < length bs)
+    × ((t : List ℕ) × (length (take n bs ++ t) ≡ length bs) × (form (take n bs ++ t) ≡ true))
+    × ((t : List ℕ) → form (take (suc n) bs ++ t) ≡ true → ⊥)
 
 -- A new length n in the part that begins at place at: in its bytes 2 and 3. In `added-section-changes`,
 -- `added-subsection-changes`.

@@ -28,12 +28,12 @@ dayAfter = 0x07 ∷ 0xD0 ∷ 0x03 ∷ 0x01 ∷ []
 abbrev pub datesRead : List Example
 datesRead =
     read (withDates 0 zeroDate zeroDate) (Accepted 3)
-    ∷ read (withDates 1 zeroDate zeroDate) (Refused 19 80)
+    ∷ read (withDates 1 zeroDate zeroDate) (Refused 19 88)
     ∷ read (withDates 0 onesDate onesDate) (Accepted 3)
     ∷ read (withDates 0 dayAfter leapDay) (Accepted 3)
-    ∷ read (withDates 1 dayAfter leapDay) (Refused 19 80)
+    ∷ read (withDates 1 dayAfter leapDay) (Refused 19 92)
     ∷ read (withDates 1 leapDay dayAfter) (Accepted 3)
-    ∷ read (withDates 1 leapDay zeroDate) (Refused 19 80)
-    ∷ read (withDates 1 zeroDate leapDay) (Refused 19 80)
-    ∷ read (withDates 2 zeroDate zeroDate) (Refused 11 80)
+    ∷ read (withDates 1 leapDay zeroDate) (Refused 19 92)
+    ∷ read (withDates 1 zeroDate leapDay) (Refused 19 88)
+    ∷ read (withDates 2 zeroDate zeroDate) (Refused 11 86)
     ∷ []

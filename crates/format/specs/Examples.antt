@@ -41,13 +41,13 @@ starred =
     read tokenT (Accepted 2)
     ∷ read [] (Refused 1 0)
     ∷ read (0x1E ∷ 0 ∷ 0 ∷ 8 ∷ 0 ∷ 0 ∷ 0 ∷ 0 ∷ []) (Refused 20 8)
-    ∷ read (set tokenT 79 1) (Refused 21 18)
+    ∷ read (set tokenT 79 1) (Refused 21 64)
     ∷ read (set (set tokenT 79 1) 0 0x1F) (Accepted 2)
-    ∷ readAny (λ b. tokenT ++ (b ∷ [])) (Refused 4 0)
+    ∷ readAny (λ b. tokenT ++ (b ∷ [])) (Refused 4 2)
     ∷ date (0x07 ∷ 0xD0 ∷ 0x02 ∷ 0x1D ∷ []) true
     ∷ date (0x07 ∷ 0x6C ∷ 0x02 ∷ 0x1D ∷ []) false
     ∷ date (0x27 ∷ 0x0F ∷ 0x0C ∷ 0x1F ∷ []) true
-    ∷ read (withRule (replicate 8 32)) (Refused 17 80)
+    ∷ read (withRule (replicate 8 32)) (Refused 17 84)
     ∷ read (withRule (65 ∷ replicate 7 32)) (Accepted 3)
     ∷ []
 

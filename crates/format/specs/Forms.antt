@@ -2,7 +2,7 @@
 -- Beside 01: "Rules beyond the layout".
 use mathlib.Core.Bool.{Bool, true, false, not, _&&_, _||_}
 use mathlib.Core.List.{List, [], _∷_}
-use Prim.Native.Nat.{ℕ, suc, _+_, _-_, _/_, _%_, _^_}
+use Prim.Native.Nat.{ℕ, zero, suc, _+_, _-_, _/_, _%_, _^_}
 use lib.Dec.{eqb, ltb, leb}
 use lib.ListN.{getD, take, drop}
 use Rattle.format.specs.Bytes.{every, howMany, number}
@@ -63,6 +63,32 @@ labelForm bs =
     && not (digit (getD bs 0 0))
     && leb stars 1
     && (eqb stars 0 || star (getD bs 0 0) || star (getD bs (n - 1) 0))
+
+-- after the bytes at the front that pass the test and the spaces after them, 0 where none passes
+abbrev pub reach : (ℕ → Bool) → List ℕ → ℕ
+reach f bs = let n = leading f bs in elim (eqb n 0) [ true ↦ 0 | false ↦ n + leading space (drop n bs) ]
+
+-- where 17 points in a Rule ID
+unfoldable pub ruleIdReach : List ℕ → ℕ
+ruleIdReach bs = reach inRuleId bs
+
+-- may stand anywhere in a label template, but for a digit in front
+abbrev pub plainLabel : ℕ → Bool
+plainLabel b = letter b || digit b || labelSign b
+
+-- 1 where the first byte is a star, else 0
+abbrev pub oneStar : List ℕ → ℕ
+oneStar [] = 0
+oneStar (b ∷ bs) = elim (star b) [ true ↦ 1 | false ↦ 0 ]
+
+-- where 17 points in a label template: after a star in front, characters without a star, where there was none in front a star
+-- behind them, and spaces; at 0 where there is no character or a digit is the first
+unfoldable pub labelReach : List ℕ → ℕ
+labelReach bs =
+    let first = oneStar bs in
+    let n = first + leading plainLabel (drop first bs) in
+    let m = n + elim first as (λ f. ℕ) [ zero ↦ oneStar (drop n bs) | suc f ↦ 0 ] in
+    elim (eqb n 0 || digit (getD bs 0 0)) [ true ↦ 0 | false ↦ m + leading space (drop m bs) ]
 
 -- ---- dates
 

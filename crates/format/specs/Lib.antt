@@ -14,3 +14,4 @@ pub mod Lines
 pub mod Claims
 pub mod Examples
 pub mod DateExamples
+pub mod PlaceExamples

@@ -10,17 +10,22 @@ use Rattle.format.specs.Bytes.{every, any, number, allZero, sameBytes}
 use Rattle.format.specs.Layout.{Fields}
 use Rattle.format.specs.Parts.{Kind, publicKey, rule, transportVariant, transportRule, exportParameters, sourceRule, tokenParameters}
 use Rattle.format.specs.Parts.{name, information, protection, dates, applicationData, isSubsection, sameKind, Part}
-use Rattle.format.specs.Forms.{between, ruleIdForm, labelForm, dateExists, inOrder, keyLength, fewestBytes, modulusForm, exponentForm}
+use Rattle.format.specs.Forms.{between, ruleIdForm, ruleIdReach, labelForm, labelReach, dateExists, inOrder, keyLength, fewestBytes, modulusForm, exponentForm}
 
--- a rule on a field: the field's number, the refusal, and whether the rule is kept: `check 6 16 b` is field 6, refusal 16. No
--- answer shows the field: beside 01 compare the refusal, the condition and the order
+-- a rule on a field: the field's number, the byte of the field that a refusal points at, from 0, the refusal, and whether the
+-- rule is kept: `check 6 16 b` is field 6, refusal 16, which points at the field's first byte
 pub record Check : Type 0 where
   pub field : ℕ
+  pub inside : ℕ
   pub refusal : ℕ
   pub holds : Bool
 
 abbrev pub check : ℕ → ℕ → Bool → Check
-check f n b = record { field = f; refusal = n; holds = b }
+check f n b = record { field = f; inside = 0; refusal = n; holds = b }
+
+-- refusal 17, which points at byte i of the field
+abbrev pub formCheck : ℕ → ℕ → Bool → Check
+formCheck f i b = record { field = f; inside = i; refusal = 17; holds = b }
 
 -- ---- the conditions on the fields of one part, in 01's order
 
@@ -94,7 +99,7 @@ checks x rule f =
     let keyCheck = getD f 3 [] in
     let symmetric = getD f 4 [] in
     let asymmetric = getD f 5 [] in
-    check 3 17 (ruleIdForm ruleId)
+    formCheck 3 (ruleIdReach ruleId) (ruleIdForm ruleId)
     ∷ check 4 11 (zeroOrOne flags)
     ∷ check 5 11 (generatedLength flags generated)
     ∷ check 6 11 (zeroToTwo keyCheck)
@@ -104,7 +109,7 @@ checks x rule f =
 -- f: 0 variant
 checks x transportVariant f = []
 -- f: 0 Rule ID
-checks x transportRule f = check 4 17 (ruleIdForm (getD f 0 [])) ∷ []
+checks x transportRule f = formCheck 4 (ruleIdReach (getD f 0 [])) (ruleIdForm (getD f 0 [])) ∷ []
 checks x exportParameters f =
     let minimum = getD f 0 [] in
     let maximum = getD f 1 [] in
@@ -117,13 +122,13 @@ checks x exportParameters f =
     ∷ check 9 18 (controlLength cv)  -- 01's c
     ∷ []
 -- f: 0 Rule ID
-checks x sourceRule f = check 4 17 (ruleIdForm (getD f 0 [])) ∷ []
+checks x sourceRule f = formCheck 4 (ruleIdReach (getD f 0 [])) (ruleIdForm (getD f 0 [])) ∷ []
 checks x tokenParameters f =
     let mask = getD f 0 [] in
     let label = getD f 2 [] in
     check 5 18 (controlLength mask)  -- 01's m
     ∷ check 8 18 (labelLength label)  -- 01's z
-    ∷ check 9 17 (eqb (length label) 0 || labelForm label)
+    ∷ formCheck 9 (labelReach label) (eqb (length label) 0 || labelForm label)
     ∷ []
 -- f: 0 name
 checks x name f = []

@@ -2,7 +2,7 @@
 -- and the chosen fields that lie there.
 -- Beside 01: the lengths in "Layouts", "Least lengths are ..".
 use mathlib.Core.List.{List, [], _∷_, _++_}
-use Prim.Native.Nat.{ℕ, _+_}
+use Prim.Native.Nat.{ℕ, zero, suc, _+_}
 use lib.ListN.{getD}
 use Rattle.format.specs.Bytes.{number, bytesAt}
 use Rattle.format.specs.Layout.{Item, code, zeros, own, count, fixed, counted, Fields}
@@ -34,6 +34,12 @@ slots ns (count w k ∷ l) bs o =
 slots ns (fixed n ∷ l) bs o = record { item = fixed n; offset = o; width = n } ∷ slots ns l bs (o + n)
 slots ns (counted s ∷ l) bs o =
     record { item = counted s; offset = o; width = getD ns s 0 } ∷ slots ns l bs (o + getD ns s 0)
+
+-- the offset of field number j
+abbrev pub offsetOf : List Slot → ℕ → ℕ
+offsetOf [] j = 0
+offsetOf (s ∷ ss) zero = s .offset
+offsetOf (s ∷ ss) (suc j) = offsetOf ss j
 
 -- the bytes of a slot
 abbrev pub slotBytes : List ℕ → Slot → List ℕ

@@ -51,7 +51,7 @@ roomFor ps t = leb (columns * length ps) (length t)
 -- reading into a lent table: the reading's own refusal; 23 with the rows needed where they have no room; else what was read
 unfoldable pub tableReading : List ℕ → List ℕ → Outcome (List Section)
 tableReading bs t =
-    andThen (reading true bs) (λ ss. need (roomFor (partsOf ss) t) (fault 23 (rowCount ss) 0) (found ss))
+    andThen (reading true bs) (λ ss. need (roomFor (partsOf ss) t) (fault 23 (rowCount ss) (rowCount ss)) (found ss))
 
 -- its answer
 unfoldable pub tableAnswer : List ℕ → List ℕ → Answer

@@ -9,7 +9,7 @@ use lib.ListN.{length, drop, getElem?}
 use Rattle.format.specs.Bytes.{bytesAt}
 use Rattle.format.specs.Slots.{slots}
 use Rattle.format.specs.Parts.{Part, layout}
-use Rattle.format.specs.Reading.{refused, found, reading, partsOf, place}
+use Rattle.format.specs.Reading.{refused, found, reading, partsOf}
 use Rattle.format.specs.Table.{placed, rows}
 use Rattle.format.specs.declared.Answer.{Answer}
 use Rattle.format.specs.declared.Answer.the-variants.{Accepted, Refused}
@@ -33,7 +33,7 @@ slotOf bs at p field =
 unfoldable pub fieldAt : List ℕ → ℕ → ℕ → Where
 fieldAt bs row field =
     elim (reading true bs) [
-      | refused f ↦ Missing (f .number) (place f)
+      | refused f ↦ Missing (f .number) (f .place)
       | found ss ↦
           elim (getElem? (placed 8 0 0 (partsOf ss)) row) [
             | none ↦ Missing 22 0
@@ -75,7 +75,7 @@ stepIn e (r ∷ rs) at = elim (eqb at (r .offset)) [ true ↦ Record r (nextPlac
 unfoldable pub stepAt : List ℕ → ℕ → Step
 stepAt bs at =
     elim (reading true bs) [
-      | refused f ↦ Stopped (f .number) (place f)
+      | refused f ↦ Stopped (f .number) (f .place)
       | found ss ↦ stepIn (length bs) (rows (partsOf ss)) at
     ]
 

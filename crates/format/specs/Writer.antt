@@ -36,9 +36,9 @@ addition k fs d =
     andThen (reading false d)
     (λ ss.
     let p : Part = record { kind = k; fields = fs } in
-    need (fits [] (layout k) fs) (fault 24 (stated d) 0)
-    (need (joins 0 (partsOf ss ++ p ∷ [])) (fault 25 (stated d) 0)
-    (need (leb (stated d + size p) 3500 && leb (stated d + size p) (length d)) (fault 23 (stated d) 0)
+    need (fits [] (layout k) fs) (fault 24 (stated d) (stated d))
+    (need (joins 0 (partsOf ss ++ p ∷ [])) (fault 25 (stated d) (stated d))
+    (need (leb (stated d + size p) 3500 && leb (stated d + size p) (length d)) (fault 23 (stated d) (stated d))
     (andThen (reading false (longer d ss p)) (λ ts. found (longer d ss p))))))
 
 -- finishing changes no byte: the draft's own fault, else the reading's 20, else the draft's length

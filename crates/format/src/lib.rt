@@ -1,5 +1,8 @@
 // The types that answers are made of; in the definitions each u32 is a natural number, ℕ. The definitions of the format stand in specs/, the theorems about them in proofs/.
 
+// A token is at most this long.
+pub const LONGEST: usize = 3500;
+
 // The answer of reading, of a view's partner question, of a line of the listing and of each call of the writer: accepted with its second number, or the refusal's number and place.
 pub enum Answer {
     Accepted(u32),

@@ -15,6 +15,7 @@ use drafts::not_fitting;
 use format::Answer;
 use placing::place_for;
 use sections::public_key::key_fields;
+use sections::refused;
 use storing::put;
 use storing::put_four;
 use storing::put_two;
@@ -66,7 +67,7 @@ pub fn public_key(
         Answer::Accepted(l) => {
             let f = key_fields(modulus_bits as usize, exponent, modulus, flags);
             if f != 0 {
-                return Answer::Refused(f, l);
+                return refused(f, l as usize);
             }
             let end = put_key(draft, l as usize, n, modulus_bits, exponent, modulus, flags);
             let _next = put_two(draft, 2, end);

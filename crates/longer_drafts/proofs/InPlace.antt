@@ -11,7 +11,7 @@ use Rattle.format.specs.Reading.{stated}
 use Rattle.format.proofs.Numbers.{bytes-take, bytes-drop}
 use Rattle.format.proofs.Changes.{restate, restate-behind}
 use Rattle.longer_drafts.specs.Appended.{Standing, grown}
-use Rattle.draft_parts.proofs.Tiling.{stated-front}
+use Rattle.format.proofs.Numbering.{stated-front}
 use Rattle.longer_drafts.proofs.Longer.{restate-long, restate-front, grown-long}
 use Rattle.longer_drafts.proofs.Restating.{restate-over, restate-back}
 

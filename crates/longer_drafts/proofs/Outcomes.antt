@@ -22,13 +22,13 @@ pub record RefusedBy {A : Type 0} (o : Outcome A) (n p : ℕ) : Type 0 where
   pub cause : Fault
   pub is : o ≡ refused cause
   pub number : n ≡ cause .number
-  pub place : p ≡ cause .part
+  pub place : p ≡ cause .place
 
 pub told-refused : {A : Type 0} {n p : ℕ} (count : A → ℕ) (o : Outcome A) → Refused n p ≡ asAnswer count o → RefusedBy o n p
 unfolding asAnswer
 told-refused {A} {n} {p} count (refused f) e =
     let a : n ≡ f .number = cc in
-    let b : p ≡ f .part = cc in
+    let b : p ≡ f .place = cc in
     record { cause = f; is = refl; number = a; place = b }
 told-refused count (found a) e = absurd (let y : _≡_ {A = ℕ} 0 1 = cc in omega arith)
 
@@ -78,7 +78,7 @@ pub no-room : {n : ℕ} (d : List ℕ) (o : ℕ) (w : List ℕ) → n ≡ stated
 unfolding appended
 no-room d o w e b =
     refused-written (appended d o w) d
-    (record { cause = fault 23 (stated d) 0; is = need-failed (fitting d (length w)) _ _ b; number = refl; place = e })
+    (record { cause = fault 23 (stated d) (stated d); is = need-failed (fitting d (length w)) _ _ b; number = refl; place = e })
 
 -- Where there is room, the longer draft is read.
 has-room : (d : List ℕ) (o : ℕ) (w : List ℕ) → stated d + length w ≤ 3500 → stated d + length w ≤ length d

@@ -26,5 +26,5 @@ grown d o w = restate o (stated (drop o d) + length w) (restate 0 (stated d + le
 -- 23, then what reading the longer draft gives
 unfoldable pub appended : List ℕ → ℕ → List ℕ → Outcome (List ℕ)
 appended d o w =
-    need (leb (stated d + length w) 3500 && leb (stated d + length w) (length d)) (fault 23 (stated d) 0)
+    need (leb (stated d + length w) 3500 && leb (stated d + length w) (length d)) (fault 23 (stated d) (stated d))
     (andThen (reading false (grown d o w)) (λ ts. found (grown d o w)))

@@ -10,6 +10,7 @@ ghost use Rattle.format.proofs.Changes.{restate};
 ghost use Rattle.longer_drafts.specs.Appended.{Standing, appended};
 use fields::two;
 use format::Answer;
+use format::LONGEST;
 use reading::draft::read_draft;
 use storing::exchange;
 use storing::put_two;
@@ -42,7 +43,7 @@ pub fn append(draft: &mut [u8], section: usize, part: &mut [u8]) -> Answer
 {
     let l = two(draft, 2);
     let k = part.len();
-    if 3500 - l < k {
+    if LONGEST - l < k {
         return Answer::Refused(23, l as u32);
     }
     if draft.len() - l < k {

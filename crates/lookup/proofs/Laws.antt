@@ -26,13 +26,13 @@ pub whole : {n : ℕ} (s : List ℕ) → Accepted n ≡ answer s → ((k : ℕ) 
 whole s e small = let r = accepted-read s e in record { sections = r .sections; bytes = bytes-of s small; read = r .read }
 
 -- A refusal comes from the reading.
-refusal : {m p : ℕ} (s : List ℕ) → Refused m p ≡ answer s → (f : Fault) × ((reading true s ≡ refused f) × ((m ≡ f .number) × (p ≡ f .part)))
+refusal : {m p : ℕ} (s : List ℕ) → Refused m p ≡ answer s → (f : Fault) × ((reading true s ≡ refused f) × ((m ≡ f .number) × (p ≡ f .place)))
 unfolding answer asAnswer
 refusal {m} {p} s e = go (reading true s) refl e
   where
     go : (o : Outcome (List Section)) → reading true s ≡ o → Refused m p ≡ asAnswer rowCount o
-        → (f : Fault) × ((reading true s ≡ refused f) × ((m ≡ f .number) × (p ≡ f .part)))
-    go (refused f) q w = let a : m ≡ f .number = cc in let b : p ≡ f .part = cc in (f, (q, (a, b)))
+        → (f : Fault) × ((reading true s ≡ refused f) × ((m ≡ f .number) × (p ≡ f .place)))
+    go (refused f) q w = let a : m ≡ f .number = cc in let b : p ≡ f .place = cc in (f, (q, (a, b)))
     go (found ss) q w = absurd (let y : _≡_ {A = ℕ} 0 1 = cc in omega arith)
 
 pub field-refused : {m p : ℕ} (s : List ℕ) (row field : ℕ) → Refused m p ≡ answer s → Missing m p ≡ fieldAt s row field
@@ -51,7 +51,7 @@ pub field-within : {o n : ℕ} (s : List ℕ) (row field : ℕ) → ((k : ℕ) �
 field-within {o} {n} s row field small e = go (reading true s) refl
   where
     go : (t : Outcome (List Section)) → reading true s ≡ t → (o + n ≤ length s) × (length s ≤ 3500)
-    go (refused f) q = absurd (let w : At o n ≡ Missing (f .number) (f .part) = e ∙ no-token s f row field q in let y : _≡_ {A = ℕ} 0 1 = cc in omega arith)
+    go (refused f) q = absurd (let w : At o n ≡ Missing (f .number) (f .place) = e ∙ no-token s f row field q in let y : _≡_ {A = ℕ} 0 1 = cc in omega arith)
     go (found ss) q =
         let b = bytes-of s small in
         let l = whole-token s ss q in

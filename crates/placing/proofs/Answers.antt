@@ -1,8 +1,8 @@
 -- The answer of an addition that is judged before it is written, and the draft that it leaves. Assumes nothing.
-use mathlib.Core.Path.{_≡_, sym, ap, _∙_}
+use mathlib.Core.Path.{_≡_, refl, sym, ap, _∙_}
 use mathlib.Core.Bool.{true, false, not, _&&_}
 use mathlib.Core.List.{List, [], _++_}
-use Prim.Native.Nat.{ℕ, _+_, _≤_}
+use Prim.Native.Nat.{ℕ, _+_, _/_, _%_, _≤_}
 use native.Mathlib.Omega.{arith}
 use lib.Dec.{leb}
 use lib.ListN.{length, drop}
@@ -12,13 +12,14 @@ use Rattle.format.specs.Bytes.{Bytes}
 use Rattle.format.specs.Layout.{Fields, fits, write}
 use Rattle.format.specs.Parts.{Kind, sectionId, layout, external}
 use Rattle.format.specs.Rules.{checks}
-use Rattle.format.specs.Reading.{found, andThen, asAnswer, idOf, stated, reading, tested}
+use Rattle.format.specs.Reading.{found, andThen, asAnswer, idOf, stated, reading, tested, located, partSlots}
 use Rattle.format.specs.Writer.{writeAnswer, draftAfter, addition}
 use Rattle.format.specs.declared.Answer.the-variants.{Accepted, Refused}
-use Rattle.format.proofs.Finding.{and-split}
-use Rattle.format.proofs.Tests.{Hold, needed, followed, found-inj, then-found, then-refused, tests-lead}
+use Rattle.format.proofs.Finding.{and-split, every-kind}
+use Rattle.format.proofs.Tests.{Kept, kept-located, needed, followed, found-inj, then-found, then-refused, tests-lead}
 use Rattle.format.proofs.Changes.{restate}
 use Rattle.sections.specs.Refusals.{firstRefusal}
+use Rattle.sections.proofs.Laws.{numbered}
 use Rattle.sections.proofs.Subs.{stops}
 use Rattle.draft_parts.specs.Tiling.{Reads}
 use Rattle.longer_drafts.specs.Appended.{grown}
@@ -69,11 +70,11 @@ pub record Ready (k : Kind) (fs : Fields) (d w : List ℕ) (t : ℕ) : Type 0 wh
 
 module _ {k : Kind} {fs : Fields} {d w : List ℕ} {t : ℕ} (r : Ready k fs d w t) where
   -- the addition: the place, then the rules on the fields, else the longer draft
-  adds : addition k fs d ≡ andThen (placeFor (sectionId k) t d) (λ l. tested l (checks (external (idOf d)) k fs) (found (grown d 0 w)))
+  adds : addition k fs d ≡ andThen (placeFor (sectionId k) t d) (λ l. tested l (located (partSlots k w) (checks (external (idOf d)) k fs)) (found (grown d 0 w)))
   adds =
       let m = made k fs w t (r .form) (r .long) in
       judged k fs d w (r .single) (r .fit) (r .bytes) (m .1)
-      ∙ ap (λ (n : ℕ). andThen (placeFor (sectionId k) n d) (λ l. tested l (checks (external (idOf d)) k fs) (found (grown d 0 w)))) (sym (r .long))
+      ∙ ap (λ (n : ℕ). andThen (placeFor (sectionId k) n d) (λ l. tested l (located (partSlots k w) (checks (external (idOf d)) k fs)) (found (grown d 0 w)))) (sym (r .long))
 
   -- no place for it
   pub no-place : {n p : ℕ} → Refused n p ≡ asAnswer (λ m. m) (placeFor (sectionId k) t d)
@@ -85,15 +86,16 @@ module _ {k : Kind} {fs : Fields} {d w : List ℕ} {t : ℕ} (r : Ready k fs d w
 
   -- a rule on its fields is broken
   pub rule-broken : {f l : ℕ} → Accepted l ≡ asAnswer (λ m. m) (placeFor (sectionId k) t d)
-      → f ≡ firstRefusal (checks (external (idOf d)) k fs) → (f ≡ 0 → ⊥)
-      → (Refused f l ≡ writeAnswer (addition k fs d)) × (d ≡ draftAfter (addition k fs d) d)
+      → f ≡ firstRefusal (located (partSlots k w) (checks (external (idOf d)) k fs)) → (f ≡ 0 → ⊥)
+      → (Refused (f % 256) (l + f / 256) ≡ writeAnswer (addition k fs d)) × (d ≡ draftAfter (addition k fs d) d)
   rule-broken {f} {l} a e other =
-      let q = stops l (checks (external (idOf d)) k fs) (found (grown d 0 w)) (λ z. other (e ∙ z)) in
+      let q = stops l (located (partSlots k w) (checks (external (idOf d)) k fs)) (found (grown d 0 w))
+      (every-kind (λ j. numbered (located (partSlots j w) (checks (external (idOf d)) j fs))) refl k) e other in
       refused-written (addition k fs d) d
-      (record { cause = q .why; is = adds ∙ then-found _ (placed d (sectionId k) t a .0) ∙ q .same; number = e ∙ sym (q .number); place = sym (q .stands) })
+      (record { cause = q .why; is = adds ∙ then-found _ (placed d (sectionId k) t a .0) ∙ q .same; number = sym (q .number); place = sym (q .stands) })
 
   -- it is written after the draft, whose header states the new length
-  pub put-after : {l e : ℕ} {new : List ℕ} → Accepted l ≡ asAnswer (λ m. m) (placeFor (sectionId k) t d) → Hold (checks (external (idOf d)) k fs)
+  pub put-after : {l e : ℕ} {new : List ℕ} → Accepted l ≡ asAnswer (λ m. m) (placeFor (sectionId k) t d) → Kept (checks (external (idOf d)) k fs)
       → e ≡ l + t → new ≡ restate 0 e (sets d l w)
       → (Accepted e ≡ writeAnswer (addition k fs d)) × (new ≡ draftAfter (addition k fs d) d)
   put-after {l} {e} {new} a h q n =
@@ -105,7 +107,7 @@ module _ {k : Kind} {fs : Fields} {d w : List ℕ} {t : ℕ} (r : Ready k fs d w
       let lw = r .long in
       let lg = grown-long d 0 w s in
       let f = found-written {n = e} (addition k fs d) d (grown d 0 w)
-      (adds ∙ then-found _ (p .0) ∙ tests-lead l (checks (external (idOf d)) k fs) (found (grown d 0 w)) h) (omega arith) in
+      (adds ∙ then-found _ (p .0) ∙ tests-lead l (located (partSlots k w) (checks (external (idOf d)) k fs)) (found (grown d 0 w)) (kept-located (partSlots k w) (checks (external (idOf d)) k fs) h)) (omega arith) in
       let en : e ≡ l + length w = omega arith in
       let lg′ : length (grown d 0 w) ≡ stated d + length w = lg in
       let bytes : restate 0 e (sets d l w) ≡ grown d 0 w ++ drop (length (grown d 0 w)) d =

@@ -7,20 +7,21 @@ use mathlib.Core.Option.{some}
 use Prim.Native.Nat.{ℕ, suc, _+_, _-_, _^_, _≤_, _<_}
 use native.Mathlib.Omega.{arith}
 use lib.Dec.{eqb, leb}
-use lib.ListN.{length, drop}
+use lib.ListN.{length, take, drop}
 use borrow.Author.Tests.{eqb-true, eq-eqb, le-leb, leb-true}
 use Rattle.format.specs.Bytes.{All, Bytes}
 use Rattle.format.specs.Layout.{Fields, fits, write}
-use Rattle.format.specs.Slots.{least}
+use Rattle.format.specs.Slots.{least, offsetOf}
 use Rattle.format.specs.Parts.{Kind, rule, sectionId, tag, sameKind, isSubsection, layout, Part, size, external}
-use Rattle.format.specs.Rules.{Check, check, checks, Section}
-use Rattle.format.specs.Reading.{Fault, fault, Outcome, refused, found, need, andThen, tested, idOf, stated, sectionKind, partIn, bodySlots, madeLength}
-use Rattle.format.specs.Reading.{zeroChecks, fieldChecks, holdsSubs, kindBefore, ruleBefore, afterSubsections, sectionRest, section, reading, subsections}
+use Rattle.format.specs.Rules.{check, checks, Section}
+use Rattle.format.specs.Reading.{Fault, fault, Outcome, refused, found, need, andThen, Test, tested, located, idOf, stated, sectionKind, partIn, partSlots, bodySlots, madeLength}
+use Rattle.format.specs.Reading.{zeroChecks, fieldChecks, sectionChecks, holdsSubs, kindBefore, ruleBefore, afterSubsections, sectionRest, section, reading, subsections}
 use Rattle.format.specs.Writer.{addition}
-use Rattle.format.proofs.Finding.{and-join, and-split, or-right, sameKind-eq, sameKind-refl, sectionKind-told}
+use Rattle.format.proofs.Finding.{and-join, and-split, every-kind, or-right, sameKind-eq, sameKind-refl, sectionKind-told}
 use Rattle.format.proofs.Fitting.{part-fits}
 use Rattle.format.proofs.Unique.{size-any, size-pos}
 use Rattle.format.proofs.Tests.{need-passed, then-found, tests-lead}
+use Rattle.format.proofs.Numbering.{tested-both}
 use Rattle.format.proofs.Turns.{then-same, subs-from, subs-none}
 use Rattle.format.proofs.PartForm.{Framed, part-read}
 use Rattle.format.proofs.Sound.{GoodSection}
@@ -35,25 +36,19 @@ use Rattle.placing.proofs.Longer.{reading-after}
 
 -- ---- chains of tests
 
--- One list of tests and then another.
-tested-both : {A : Type 0} (at : ℕ) (cs ds : List Check) (rest : Outcome A) → tested at (cs ++ ds) rest ≡ tested at cs (tested at ds rest)
-unfolding tested
-tested-both at [] ds rest = refl
-tested-both at (c ∷ cs) ds rest = ap (need (c .holds) (fault (c .refusal) at (c .field))) (tested-both at cs ds rest)
-
 -- What follows tests.
 need-then : {A B : Type 0} (b : Bool) (f : Fault) (rest : Outcome A) (next : A → Outcome B) → andThen (need b f rest) next ≡ need b f (andThen rest next)
 unfolding need andThen
 need-then true f rest next = refl
 need-then false f rest next = refl
 
-tested-then : {A B : Type 0} (at : ℕ) (cs : List Check) (rest : Outcome A) (next : A → Outcome B)
+tested-then : {A B : Type 0} (at : ℕ) (cs : List Test) (rest : Outcome A) (next : A → Outcome B)
     → andThen (tested at cs rest) next ≡ tested at cs (andThen rest next)
 unfolding tested
 tested-then at [] rest next = refl
 tested-then at (c ∷ cs) rest next =
-    need-then (c .holds) (fault (c .refusal) at (c .field)) (tested at cs rest) next
-    ∙ ap (need (c .holds) (fault (c .refusal) at (c .field))) (tested-then at cs rest next)
+    need-then (c .holds) (fault (c .refusal) at (at + c .offset)) (tested at cs rest) next
+    ∙ ap (need (c .holds) (fault (c .refusal) at (at + c .offset))) (tested-then at cs rest next)
 
 -- Outcomes that follow each other.
 then-then : {A B C : Type 0} (o : Outcome A) (f : A → Outcome B) (g : B → Outcome C) → andThen (andThen o f) g ≡ andThen o (λ a. andThen (f a) g)
@@ -94,11 +89,15 @@ pub record Single (k : Kind) : Type 0 where
   pub bare : holdsSubs k ≡ false
   pub once : sameKind rule k ≡ false
 
+-- Its first field is its start.
+starts : (k : Kind) (w : List ℕ) → offsetOf (partSlots k w) 0 ≡ 0
+starts k w = eqb-true (offsetOf (partSlots k w) 0) 0 (every-kind (λ j. eqb (offsetOf (partSlots j w) 0) 0) refl k)
+
 -- Such a section as it is written: 9 where its kind stands before, then the rules on its fields.
 judged-section : (x : Bool) (before : List Section) (at : ℕ) (p : Part) (w : List ℕ) → Single (p .kind)
     → fits [] (layout (p .kind)) (p .fields) ≡ true → size p < 256 ^ 2 → w ≡ write (size p) (layout (p .kind)) (p .fields)
     → section false x before at w
-    ≡ need (not (kindBefore (p .kind) before)) (fault 9 at 0) (tested at (checks x (p .kind) (p .fields)) (found (record { head = p; subs = [] })))
+    ≡ need (not (kindBefore (p .kind) before)) (fault 9 at at) (tested at (located (partSlots (p .kind) w) (checks x (p .kind) (p .fields))) (found (record { head = p; subs = [] })))
 unfolding tested sectionRest afterSubsections
 judged-section x before at p w s fit small e =
     let k : Kind = p .kind in
@@ -125,18 +124,22 @@ judged-section x before at p w s fit small e =
     ∙ need-passed true _ _ refl
     ∙ need-passed true _ _ refl
     ∙ ap (λ (q : Part). found (record { head = q; subs = [] })) (i .2) in
-    let ids : List Check = check 3 9 (not (sameKind rule k && repeated)) ∷ [] in
-    let after : tested at (fieldChecks x k w ++ ids) (sectionRest false x k at w) ≡ tested at (checks x k (p .fields)) (found (record { head = p; subs = [] })) =
+    let ids : List Test = located (partSlots k w) (check 0 9 (not (sameKind rule k && repeated)) ∷ []) in
+    let after : tested at (fieldChecks x k w ++ ids) (sectionRest false x k at w) ≡ tested at (located (partSlots k w) (checks x k (p .fields))) (found (record { head = p; subs = [] })) =
     tested-both at (fieldChecks x k w) ids (sectionRest false x k at w)
     ∙ ap (tested at (fieldChecks x k w)) (tests-lead at ids (sectionRest false x k at w) (ap (λ (v : Bool). not (v && repeated)) (s .once), tt) ∙ rest)
-    ∙ tested-both at (zeroChecks 3 w (bodySlots k w)) (checks x k (partIn k w .fields)) _
-    ∙ tests-lead at (zeroChecks 3 w (bodySlots k w)) _ (i .1)
-    ∙ ap (λ (y : Fields). tested at (checks x k y) (found (record { head = p; subs = [] }))) fields in
+    ∙ tested-both at (zeroChecks w (bodySlots k w)) (located (partSlots k w) (checks x k (partIn k w .fields))) _
+    ∙ tests-lead at (zeroChecks w (bodySlots k w)) _ (i .1)
+    ∙ ap (λ (y : Fields). tested at (located (partSlots k w) (checks x k y)) (found (record { head = p; subs = [] }))) fields in
+    let cs : List Test = sectionChecks x k seen repeated w in
+    let nine : at + (offsetOf (partSlots k w) 0 + 0) ≡ at = omega (arith, starts k w) in
+    let rest′ : Outcome Section = sectionRest false x k at w in
     known x k before at w (omega arith) kind
-    ∙ need-passed _ _ _ (framed .1)
-    ∙ need-passed _ _ _ (and-join _ _ (le-leb (least (layout k)) (stated w) (omega arith)) (le-leb (stated w) (length w) (omega arith)))
-    ∙ ap₂ (λ (v : Bool) (o : Outcome Section). need (v || not seen) (fault 9 at 0) o) (s .once)
-    (need-passed _ _ _ (or-right (holdsSubs k) _ (eq-eqb (madeLength k w) (stated w) (omega arith))) ∙ after)
+    ∙ tests-lead at (take 2 cs) (tested at (drop 2 cs) rest′)
+    (framed .1, (and-join _ _ (le-leb (least (layout k)) (stated w) (omega arith)) (le-leb (stated w) (length w) (omega arith)), tt))
+    ∙ ap (λ (q : ℕ). need (sameKind rule k || not seen) (fault 9 at q) (tested at (drop 3 cs) rest′)) nine
+    ∙ ap₂ (λ (v : Bool) (o : Outcome Section). need (v || not seen) (fault 9 at at) o) (s .once)
+    (tests-lead at (take 1 (drop 3 cs)) (tested at (drop 4 cs) rest′) (or-right (holdsSubs k) _ (eq-eqb (madeLength k w) (stated w) (omega arith)), tt) ∙ after)
 
 -- ---- its addition
 
@@ -144,15 +147,15 @@ judged-section x before at p w s fit small e =
 judged-longer : (d : List ℕ) (ss : List Section) (p : Part) (w : List ℕ) → Single (p .kind) → fits [] (layout (p .kind)) (p .fields) ≡ true
     → Bytes d → reading false d ≡ found ss → stated d + length w ≤ 3500 → length w ≡ size p → w ≡ write (size p) (layout (p .kind)) (p .fields)
     → andThen (reading false (grown d 0 w)) (λ ts. found (grown d 0 w))
-    ≡ need (not (idAmong (sectionId (p .kind)) ss)) (fault 9 (stated d) 0)
-    (tested (stated d) (checks (external (idOf d)) (p .kind) (p .fields)) (found (grown d 0 w)))
+    ≡ need (not (idAmong (sectionId (p .kind)) ss)) (fault 9 (stated d) (stated d))
+    (tested (stated d) (located (partSlots (p .kind) w) (checks (external (idOf d)) (p .kind) (p .fields))) (found (grown d 0 w)))
 unfolding andThen
 judged-longer d ss p w s fit b e m l form =
     let k : Kind = p .kind in
     let x : Bool = external (idOf d) in
     let L : ℕ = stated d in
     let g : List ℕ = grown d 0 w in
-    let cs : List Check = checks x k (p .fields) in
+    let cs : List Test = located (partSlots k w) (checks x k (p .fields)) in
     let pos = size-pos p in
     let says : stated w ≡ length w =
     ap stated form ∙ part-stated p (size p) (write (size p) (layout k) (p .fields)) [] (omega arith) fit (sym (append-nil (write (size p) (layout k) (p .fields)))) ∙ sym l in
@@ -160,28 +163,28 @@ judged-longer d ss p w s fit b e m l form =
     ap (λ (o : Outcome (List Section)). andThen o (λ ts. found g))
     (reading-after d w ss b e m (omega arith) says
     ∙ ap (λ (o : Outcome Section). andThen o (λ t. found (ss ++ t ∷ []))) (judged-section x ss L p w s fit (omega arith) form))
-    ∙ then-then (need (not (kindBefore k ss)) (fault 9 L 0) (tested L cs (found (record { head = p; subs = [] })))) (λ t. found (ss ++ t ∷ [])) (λ ts. found g)
-    ∙ need-then (not (kindBefore k ss)) (fault 9 L 0) (tested L cs (found (record { head = p; subs = [] }))) (λ t. andThen (found (ss ++ t ∷ [])) (λ ts. found g))
-    ∙ ap₂ (λ (v : Bool) (o : Outcome (List ℕ)). need (not v) (fault 9 L 0) o) (before-among x k ss (s .section) good)
+    ∙ then-then (need (not (kindBefore k ss)) (fault 9 L L) (tested L cs (found (record { head = p; subs = [] })))) (λ t. found (ss ++ t ∷ [])) (λ ts. found g)
+    ∙ need-then (not (kindBefore k ss)) (fault 9 L L) (tested L cs (found (record { head = p; subs = [] }))) (λ t. andThen (found (ss ++ t ∷ [])) (λ ts. found g))
+    ∙ ap₂ (λ (v : Bool) (o : Outcome (List ℕ)). need (not v) (fault 9 L L) o) (before-among x k ss (s .section) good)
     (tested-then L cs (found (record { head = p; subs = [] })) (λ t. andThen (found (ss ++ t ∷ [])) (λ ts. found g)))
 
 -- The addition: the place, then the rules on the fields, else the longer draft.
 pub judged : (k : Kind) (fs : Fields) (d w : List ℕ) → Single k → fits [] (layout k) fs ≡ true → Bytes d
     → w ≡ write (size (record { kind = k; fields = fs })) (layout k) fs
     → addition k fs d
-    ≡ andThen (placeFor (sectionId k) (length w) d) (λ l. tested l (checks (external (idOf d)) k fs) (found (grown d 0 w)))
+    ≡ andThen (placeFor (sectionId k) (length w) d) (λ l. tested l (located (partSlots k w) (checks (external (idOf d)) k fs)) (found (grown d 0 w)))
 unfolding sectionAdded appended placeFor andThen
 judged k fs d w s fit b form =
     let p : Part = record { kind = k; fields = fs } in
     let L : ℕ = stated d in
     let room : Bool = leb (L + length w) 3500 && leb (L + length w) (length d) in
     let l : length w ≡ size p = ap length form ∙ size-any (layout k) (size p) 0 fs in
-    let next : ℕ → Outcome (List ℕ) = λ n. tested n (checks (external (idOf d)) k fs) (found (grown d 0 w)) in
+    let next : ℕ → Outcome (List ℕ) = λ n. tested n (located (partSlots k w) (checks (external (idOf d)) k fs)) (found (grown d 0 w)) in
     section-same k fs d w (size p) (s .section) fit form (sym l) b
     ∙ then-same (reading false d) _ _
     (λ ss e.
-    same-need room room (fault 23 L 0) _ _ refl
+    same-need room room (fault 23 L L) _ _ refl
     (λ q. judged-longer d ss p w s fit b e (leb-true (L + length w) 3500 (and-split (leb (L + length w) 3500) _ q .0)) l form
-    ∙ sym (need-then (not (idAmong (sectionId k) ss)) (fault 9 L 0) (found L) next))
-    ∙ sym (need-then room (fault 23 L 0) _ next))
+    ∙ sym (need-then (not (idAmong (sectionId k) ss)) (fault 9 L L) (found L) next))
+    ∙ sym (need-then room (fault 23 L L) _ next))
     ∙ sym (then-then (reading false d) _ next)

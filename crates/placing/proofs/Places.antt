@@ -27,7 +27,7 @@ no-place d i k ss e q b =
 
 -- There is room: 9 where one stands before, else the place.
 roomy : (d : List ℕ) (i k : ℕ) (ss : List Section) → reading false d ≡ found ss → stated d + k ≤ 3500 → stated d + k ≤ length d
-    → placeFor i k d ≡ need (not (idAmong i ss)) (fault 9 (stated d) 0) (found (stated d))
+    → placeFor i k d ≡ need (not (idAmong i ss)) (fault 9 (stated d) (stated d)) (found (stated d))
 unfolding placeFor
 roomy d i k ss e h m =
     then-found _ e

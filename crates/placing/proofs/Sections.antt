@@ -17,7 +17,8 @@ use Rattle.format.proofs.Grouping.{all-split}
 use Rattle.format.proofs.Sound.{GoodSection}
 use Rattle.format.proofs.Accepted.{reading-sound}
 use Rattle.draft_parts.specs.Tiling.{TiledTo}
-use Rattle.draft_parts.proofs.Tiling.{stated-front, States, laid, passed-then, cut-at}
+use Rattle.format.proofs.Numbering.{stated-front}
+use Rattle.draft_parts.proofs.Tiling.{States, laid, passed-then, cut-at}
 use Rattle.draft_parts.proofs.LaidSections.{sectionBytes, draft-laid}
 use Rattle.draft_parts.proofs.LaidSections.{section-id}
 use Rattle.placing.specs.Placing.{idAmong, PassedTo, here, next, StandsIn}

@@ -20,8 +20,8 @@ unfoldable pub placeFor : ℕ → ℕ → List ℕ → Outcome ℕ
 placeFor i n d =
     andThen (reading false d)
     (λ ss.
-    need (leb (stated d + n) 3500 && leb (stated d + n) (length d)) (fault 23 (stated d) 0)
-    (need (not (idAmong i ss)) (fault 9 (stated d) 0) (found (stated d))))
+    need (leb (stated d + n) 3500 && leb (stated d + n) (length d)) (fault 23 (stated d) (stated d))
+    (need (not (idAmong i ss)) (fault 9 (stated d) (stated d)) (found (stated d))))
 
 -- stepping from part to part by the lengths that they state, one comes from the front of the bytes to z, past no part with
 -- the id i

@@ -7,6 +7,7 @@ ghost use Rattle.draft_parts.specs.Tiling.{Tiled};
 ghost use Rattle.placing.specs.Placing.{PassedTo, StandsIn, placeFor};
 use fields::two;
 use format::Answer;
+use format::LONGEST;
 use reading::draft::read_draft;
 
 // The end of the rules of 20 bytes that follow each other from the place p on. A long draft has many, and a step by a known
@@ -54,7 +55,7 @@ pub fn place_for(draft: &[u8], id: u8, n: usize) -> Answer
         Answer::Refused(number, place) => Answer::Refused(number, place),
         Answer::Accepted(_rows) => {
             let l = two(draft, 2);
-            if 3500 - l < n {
+            if LONGEST - l < n {
                 return Answer::Refused(23, l as u32);
             }
             if draft.len() - l < n {

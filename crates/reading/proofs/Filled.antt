@@ -43,8 +43,8 @@ unfolding answer asAnswer tableAnswer tableAfter tableReading andThen
 refused-table {m} {p} s t e = go (reading true s) e
   where
     go : (o : Outcome (List Section)) → Refused m p ≡ asAnswer rowCount o
-        → (Refused m p ≡ asAnswer rowCount (andThen o (λ ss. need (leb (columns * length (partsOf ss)) (length t)) (fault 23 (rowCount ss) 0) (found ss))))
-        × (t ≡ elim (andThen o (λ ss. need (leb (columns * length (partsOf ss)) (length t)) (fault 23 (rowCount ss) 0) (found ss))) as (λ y. List ℕ) [
+        → (Refused m p ≡ asAnswer rowCount (andThen o (λ ss. need (leb (columns * length (partsOf ss)) (length t)) (fault 23 (rowCount ss) (rowCount ss)) (found ss))))
+        × (t ≡ elim (andThen o (λ ss. need (leb (columns * length (partsOf ss)) (length t)) (fault 23 (rowCount ss) (rowCount ss)) (found ss))) as (λ y. List ℕ) [
           | refused f ↦ t
           | found ss ↦ tableOf (rows (partsOf ss)) ++ drop (columns * rowCount ss) t
         ])
@@ -60,10 +60,10 @@ short-table {n} s t w h =
     (ap (λ (m : ℕ). Refused 23 m) r ∙ sym (ap (asAnswer rowCount) (short (reading true s) (w .read) b)), sym (ap (after t) (short (reading true s) (w .read) b)))
   where
     short : (o : Outcome (List Section)) → o ≡ found (w .sections) → leb (columns * length (partsOf (w .sections))) (length t) ≡ false
-        → andThen o (λ ss. need (leb (columns * length (partsOf ss)) (length t)) (fault 23 (rowCount ss) 0) (found ss)) ≡ refused (fault 23 (rowCount (w .sections)) 0)
+        → andThen o (λ ss. need (leb (columns * length (partsOf ss)) (length t)) (fault 23 (rowCount ss) (rowCount ss)) (found ss)) ≡ refused (fault 23 (rowCount (w .sections)) (rowCount (w .sections)))
     short o e b =
-        ap (λ y. andThen y (λ ss. need (leb (columns * length (partsOf ss)) (length t)) (fault 23 (rowCount ss) 0) (found ss))) e
-        ∙ ap (λ (y : Bool). need y (fault 23 (rowCount (w .sections)) 0) (found (w .sections))) b
+        ap (λ y. andThen y (λ ss. need (leb (columns * length (partsOf ss)) (length t)) (fault 23 (rowCount ss) (rowCount ss)) (found ss))) e
+        ∙ ap (λ (y : Bool). need y (fault 23 (rowCount (w .sections)) (rowCount (w .sections))) (found (w .sections))) b
 
 -- ---- the rows
 
@@ -92,7 +92,7 @@ filled-table {n} {u} s t w h f =
     (ap Accepted r ∙ sym (ap (asAnswer rowCount) (whole (reading true s) (w .read) b)), g ∙ sym (ap (after t) (whole (reading true s) (w .read) b)))
   where
     whole : (o : Outcome (List Section)) → o ≡ found (w .sections) → leb (columns * length (partsOf (w .sections))) (length t) ≡ true
-        → andThen o (λ ss. need (leb (columns * length (partsOf ss)) (length t)) (fault 23 (rowCount ss) 0) (found ss)) ≡ found (w .sections)
+        → andThen o (λ ss. need (leb (columns * length (partsOf ss)) (length t)) (fault 23 (rowCount ss) (rowCount ss)) (found ss)) ≡ found (w .sections)
     whole o e b =
-        ap (λ y. andThen y (λ ss. need (leb (columns * length (partsOf ss)) (length t)) (fault 23 (rowCount ss) 0) (found ss))) e
-        ∙ ap (λ (y : Bool). need y (fault 23 (rowCount (w .sections)) 0) (found (w .sections))) b
+        ap (λ y. andThen y (λ ss. need (leb (columns * length (partsOf ss)) (length t)) (fault 23 (rowCount ss) (rowCount ss)) (found ss))) e
+        ∙ ap (λ (y : Bool). need y (fault 23 (rowCount (w .sections)) (rowCount (w .sections))) (found (w .sections))) b

@@ -6,6 +6,7 @@ use contents::header::header;
 use contents::whole::sections_of;
 use fields::two;
 use format::Answer;
+use sections::refused;
 
 // The answer of reading a lent draft: 0 and the rows of its parts, or the first fault and its place.
 pub fn read_draft(draft: &[u8]) -> Answer
@@ -13,8 +14,8 @@ pub fn read_draft(draft: &[u8]) -> Answer
 {
     let f = header(draft, false);
     if f != 0 {
-        return Answer::Refused(f, 0);
+        return refused(f, 0);
     }
     let n = two(draft, 2);
-    sections_of(&draft[..n], draft[0] == 30, false)
+    sections_of(&draft[..n], draft[0] == 0x1E, false)
 }

@@ -7,6 +7,7 @@ ghost use Rattle.format.specs.Table.{tableAnswer, tableAfter};
 use contents::header::header;
 use contents::whole::sections_of;
 use format::Answer;
+use sections::refused;
 use table::fill;
 
 // The answer for any bytes: 0 and the rows of a legal token, or the first fault and its place.
@@ -15,9 +16,9 @@ pub fn read(token: &[u8]) -> Answer
 {
     let f = header(token, true);
     if f != 0 {
-        return Answer::Refused(f, 0);
+        return refused(f, 0);
     }
-    sections_of(token, token[0] == 30, true)
+    sections_of(token, token[0] == 0x1E, true)
 }
 
 // The same answer, and 23 with the rows needed where the table is too short for them. The rows of an accepted token are

@@ -5,6 +5,9 @@ ghost use mathlib.Core.Path.{_≡_};
 ghost use Prim.Native.Nat.{_<_};
 ghost use Rattle.rule_ids.specs.Keys.{hashOf, Room, Put};
 
+// The places of a set.
+pub const ID_PLACES: usize = 704;
+
 // The first place that may hold the number: one of 512, by multiplying its two halves.
 fn hash(k: u64) -> usize
     ensures { λ r. ⌜ (r ≡ hashOf k) × (r < 512) ⌝ }
@@ -15,7 +18,7 @@ fn hash(k: u64) -> usize
 }
 
 // Puts the number into the set, and says whether it was there.
-pub fn put(ids: &mut [u64; 704], k: u64) -> bool
+pub fn put(ids: &mut [u64; ID_PLACES], k: u64) -> bool
     requires { ⌜ (0 < k) × Room (now ids) ⌝ }
     ensures { λ r. ⌜ Put (now (ids .entry)) k r (now (ids .exit)) ⌝ }
 {

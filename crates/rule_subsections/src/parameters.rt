@@ -11,10 +11,26 @@ ghost use Rattle.format.specs.Reading.{fieldChecks, subsectionChecks};
 ghost use Rattle.fields.specs.Page.{Page};
 ghost use Rattle.sections.specs.Refusals.{firstRefusal};
 use fields::characters::label_form;
+use fields::characters::label_place;
 use fields::keys::key_length;
 use fields::two;
 use fields::wide;
+use sections::SUBSECTION_LENGTH;
+use sections::SUBSECTION_RESERVED;
+use sections::at_offset;
 use sections::subsection_head;
+
+// The refusals of the fields with their offsets (lib.rt of sections).
+const FLAGS: u32 = 11 + 256 * 7;
+
+const MINIMUM: u32 = 18 + 256 * 8;
+
+const MAXIMUM: u32 = 18 + 256 * 9;
+
+const VARIANT_LENGTH: u32 = 18 + 256 * 10;
+
+// The length of the masks, by itself and against the minimum of the rule's 0003.
+pub const MASK_LENGTH: u32 = 18 + 256 * 8;
 
 // A control vector or mask of so many bytes may stand: none, 8 or 16.
 fn control_length(n: usize) -> bool
@@ -46,27 +62,27 @@ fn export_fields(s: &[u8], q: usize, x: usize, c: usize) -> u32
     ensures { λ r. ⌜ ((y : Bool) → r ≡ firstRefusal (fieldChecks y exportParameters (drop q (now (s .entry))))) ⌝ }
 {
     if two(s, q + 5) != 0 {
-        return 10;
+        return SUBSECTION_RESERVED;
     }
     if s[q + 7] != 0 {
-        return 11;
+        return FLAGS;
     }
     let minimum = s[q + 8];
     let maximum = s[q + 9];
     if !key_length(minimum) {
-        return 18;
+        return MINIMUM;
     }
     if !key_length(maximum) {
-        return 18;
+        return MAXIMUM;
     }
     if maximum < minimum {
-        return 18;
+        return MAXIMUM;
     }
     if !variant_length(x, maximum) {
-        return 18;
+        return VARIANT_LENGTH;
     }
     if !control_length(c) {
-        return 18;
+        return at_offset(18, 11 + x);
     }
     0
 }
@@ -83,11 +99,11 @@ pub fn export_at(s: &[u8], q: usize, n: usize, seen: bool) -> u32
     let len = two(s, q + 2);
     let x = wide(s[q + 10]);
     if len < 12 + x {
-        return 12;
+        return SUBSECTION_LENGTH;
     }
     let c = wide(s[q + 11 + x]);
     if len != 12 + x + c {
-        return 12;
+        return SUBSECTION_LENGTH;
     }
     export_fields(s, q, x, c)
 }
@@ -98,22 +114,23 @@ fn token_fields(s: &[u8], page: &[u8; 256], q: usize, m: usize, z: usize) -> u32
     ensures { λ r. ⌜ ((x : Bool) → r ≡ firstRefusal (fieldChecks x tokenParameters (drop q (now (s .entry))))) ⌝ }
 {
     if two(s, q + 5) != 0 {
-        return 10;
+        return SUBSECTION_RESERVED;
     }
     if s[q + 7] != 0 {
-        return 11;
+        return FLAGS;
     }
     if !control_length(m) {
-        return 18;
+        return MASK_LENGTH;
     }
     if z == 0 {
         return 0;
     }
     if z != 64 {
-        return 18;
+        return at_offset(18, 9 + m + m);
     }
-    if !label_form(s, page, q + 10 + m + m) {
-        return 17;
+    let label = q + 10 + m + m;
+    if !label_form(s, page, label) {
+        return at_offset(17, label - q + label_place(s, label));
     }
     0
 }
@@ -130,11 +147,11 @@ pub fn token_at(s: &[u8], page: &[u8; 256], q: usize, n: usize, seen: bool) -> u
     let len = two(s, q + 2);
     let m = wide(s[q + 8]);
     if len < 10 + m + m {
-        return 12;
+        return SUBSECTION_LENGTH;
     }
     let z = wide(s[q + 9 + m + m]);
     if len != 10 + m + m + z {
-        return 12;
+        return SUBSECTION_LENGTH;
     }
     token_fields(s, page, q, m, z)
 }

@@ -8,8 +8,13 @@ ghost use Rattle.format.specs.Reading.{subsectionChecks};
 ghost use Rattle.fields.specs.Page.{Page};
 ghost use Rattle.sections.specs.Refusals.{firstRefusal};
 use fields::characters::rule_id_form;
+use fields::characters::rule_id_place;
 use fields::two;
 use fields::wide;
+use sections::SUBSECTION_LENGTH;
+use sections::SUBSECTION_RESERVED;
+use sections::at_offset;
+use sections::fixed_subsection_head;
 use sections::subsection_head;
 
 // The subsection 0001 at q, where n bytes are left of its section; seen: one stands before.
@@ -22,10 +27,10 @@ pub fn variant_at(s: &[u8], q: usize, n: usize, seen: bool) -> u32
         return h;
     }
     if two(s, q + 2) != 8 + wide(s[q + 7]) {
-        return 12;
+        return SUBSECTION_LENGTH;
     }
     if two(s, q + 5) != 0 {
-        return 10;
+        return SUBSECTION_RESERVED;
     }
     0
 }
@@ -35,18 +40,12 @@ pub fn reference_at(s: &[u8], page: &[u8; 256], q: usize, n: usize, seen: bool) 
     requires { ⌜ (4 ≤ n) × (q + n ≤ length (now s)) × (length (now s) ≤ 3500) × Page (now page) ⌝ }
     ensures { λ r. ⌜ ((x : Bool) → r ≡ firstRefusal (subsectionChecks x transportRule seen n (drop q (now (s .entry))))) ⌝ }
 {
-    let h = subsection_head(s, q, n, 14, seen);
+    let h = fixed_subsection_head(s, q, n, 14, seen);
     if h != 0 {
         return h;
     }
-    if two(s, q + 2) != 14 {
-        return 12;
-    }
-    if s[q + 5] != 0 {
-        return 10;
-    }
     if !rule_id_form(s, page, q + 6) {
-        return 17;
+        return at_offset(17, 6 + rule_id_place(s, q + 6));
     }
     0
 }

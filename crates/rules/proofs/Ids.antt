@@ -114,9 +114,7 @@ held-skip {before} s h grows e =
       few = let few = h .few in omega arith;
       below = h .below;
       eight = all-join _ before (s ∷ []) (h .eight) ((λ y. absurd (let z : _≡_ {A = ℕ} 0 1 = cc in omega arith)), tt);
-      holds = λ key pos.
-          h .holds key pos
-          ∙ sym (key-last key before s ∙ ap (λ (b : Bool). keyBefore key before || (b && eqb (number (firstField s)) key)) e ∙ or-false (keyBefore key before));
+      holds = λ key pos. h .holds key pos ∙ sym (key-last key before s ∙ rw (e, or-false (keyBefore key before)));
     }
 
 -- A rule of at least 20 bytes is put into it.
@@ -130,9 +128,5 @@ held-put {before} s h w grows e f =
       few = let few = h .few in omega arith;
       below = λ i nz. let b = w .below (512 + h .count) (omega arith) (h .below) i nz in omega arith;
       eight = all-join _ before (s ∷ []) (h .eight) ((λ y. f), tt);
-      holds = λ k pos.
-          w .holds k pos
-          ∙ or-comm (eqb key k) _
-          ∙ ap (λ (b : Bool). b || eqb key k) (h .holds k pos)
-          ∙ sym (key-last k before s ∙ ap (λ (b : Bool). keyBefore k before || (b && eqb key k)) e);
+      holds = λ k pos. w .holds k pos ∙ rw (key-last k before s, e, h .holds k pos) (or-comm (eqb key k) (keyBefore k before));
     }

@@ -3,6 +3,7 @@ use mathlib.Core.Path.{_≡_, refl, sym, ap, ap₂, _∙_}
 use mathlib.Core.Bool.{Bool, true, false, not, _||_}
 use mathlib.Core.List.{List, [], _∷_, _++_}
 use Prim.Native.Nat.{ℕ, zero, suc, _+_, _<_, _≤_}
+use native.Mathlib.Nat.{add-zero}
 use native.Mathlib.Omega.{arith}
 use lib.Dec.{eqb}
 use lib.ListN.{length, drop}
@@ -23,47 +24,36 @@ kind-same k us u e h =
     kind-join k us (u ∷ [])
     ∙ ap₂ (λ (l : List Part) (b : Bool). l ++ elim b as (λ y. List Part) [ true ↦ u ∷ [] | false ↦ [] ]) h e
 
+-- the list has a part
+abbrev some : List Part → Bool
+some [] = false
+some (u ∷ us) = true
+
 -- A kind stands among parts where there are parts of it.
-has-of : (k : Kind) (us : List Part) → has k us ≡ elim (ofKind k us) as (λ y. Bool) [ [] ↦ false | v ∷ vs ↦ true ]
+has-of : (k : Kind) (us : List Part) → has k us ≡ some (ofKind k us)
 has-of k [] = refl
 has-of k (u ∷ us) = go (sameKind k (u .kind)) (has-of k us)
   where
-    go : (b : Bool) → has k us ≡ elim (ofKind k us) as (λ y. Bool) [ [] ↦ false | v ∷ vs ↦ true ]
-        → (b || has k us)
-        ≡ elim (elim b as (λ y. List Part) [ true ↦ u ∷ ofKind k us | false ↦ ofKind k us ]) as (λ y. Bool) [ [] ↦ false | v ∷ vs ↦ true ]
+    go : (b : Bool) → has k us ≡ some (ofKind k us)
+        → (b || has k us) ≡ some (elim b as (λ y. List Part) [ true ↦ u ∷ ofKind k us | false ↦ ofKind k us ])
     go true ih = refl
     go false ih = ih
 
--- ---- the place of a kind, with one part more
-
--- Where a part of the kind stands, its place stays.
-place-kept : (k : Kind) (at : ℕ) (us : List Part) (u : Part) → has k us ≡ true → placeOf k at (us ++ u ∷ []) ≡ placeOf k at us
-place-kept k at [] u e = absurd (let z : _≡_ {A = ℕ} 0 1 = cc in omega arith)
-place-kept k at (v ∷ us) u e = go (sameKind k (v .kind)) e (λ q. place-kept k (at + size v) us u q)
+-- The place of a kind stays where a part of it stands or the new one is of it; else it is the end, moved by that part's size.
+place-last : (k : Kind) (u : Part) (at : ℕ) (us : List Part)
+    → placeOf k at (us ++ u ∷ []) ≡ placeOf k at us + elim (has k us || sameKind k (u .kind)) as (λ y. ℕ) [ true ↦ 0 | false ↦ size u ]
+place-last k u at [] = go (sameKind k (u .kind))
   where
-    go : (b : Bool) → (b || has k us) ≡ true
-        → (has k us ≡ true → placeOf k (at + size v) (us ++ u ∷ []) ≡ placeOf k (at + size v) us)
-        → _≡_ {A = ℕ} (elim b [ true ↦ at | false ↦ placeOf k (at + size v) (us ++ u ∷ []) ]) (elim b [ true ↦ at | false ↦ placeOf k (at + size v) us ])
-    go true q ih = refl
-    go false q ih = ih q
-
--- Where none stands, it is the end: moved by the part's size, or now the place of that part.
-place-new : (k : Kind) (at : ℕ) (us : List Part) (u : Part) → has k us ≡ false
-    → placeOf k at (us ++ u ∷ []) ≡ elim (sameKind k (u .kind)) as (λ y. ℕ) [ true ↦ placeOf k at us | false ↦ placeOf k at us + size u ]
-place-new k at [] u e = refl
-place-new k at (v ∷ us) u e = go (sameKind k (v .kind)) e (λ q. place-new k (at + size v) us u q)
+    go : (b : Bool) → _≡_ {A = ℕ} (elim b [ true ↦ at | false ↦ at + size u ]) (at + elim b as (λ y. ℕ) [ true ↦ 0 | false ↦ size u ])
+    go true = sym (add-zero at)
+    go false = refl
+place-last k u at (v ∷ us) = go (sameKind k (v .kind)) (place-last k u (at + size v) us)
   where
-    go : (b : Bool) → (b || has k us) ≡ false
-        → (has k us ≡ false
-        → placeOf k (at + size v) (us ++ u ∷ [])
-        ≡ elim (sameKind k (u .kind)) as (λ y. ℕ) [ true ↦ placeOf k (at + size v) us | false ↦ placeOf k (at + size v) us + size u ])
+    go : (b : Bool) → placeOf k (at + size v) (us ++ u ∷ []) ≡ placeOf k (at + size v) us + elim (has k us || sameKind k (u .kind)) as (λ y. ℕ) [ true ↦ 0 | false ↦ size u ]
         → _≡_ {A = ℕ} (elim b [ true ↦ at | false ↦ placeOf k (at + size v) (us ++ u ∷ []) ])
-        (elim (sameKind k (u .kind)) [
-          | true ↦ elim b as (λ y. ℕ) [ true ↦ at | false ↦ placeOf k (at + size v) us ]
-          | false ↦ elim b as (λ y. ℕ) [ true ↦ at | false ↦ placeOf k (at + size v) us ] + size u
-        ])
-    go true q ih = absurd (let z : _≡_ {A = ℕ} 0 1 = cc in omega arith)
-    go false q ih = ih q
+        (elim b as (λ y. ℕ) [ true ↦ at | false ↦ placeOf k (at + size v) us ] + elim ((b || has k us) || sameKind k (u .kind)) as (λ y. ℕ) [ true ↦ 0 | false ↦ size u ])
+    go true ih = sym (add-zero at)
+    go false ih = ih
 
 -- ---- a kind that stands at most once
 
@@ -94,18 +84,14 @@ not-none : (i : ℕ) → not (eqb (suc i) 0) ≡ true
 not-none i = ap not (ne-eqb (suc i) 0 (λ e. omega arith))
 
 -- Parts of a kind stand at a place exactly where it is not 0.
-standing-told : (s : List ℕ) (k : Kind) (i : ℕ)
-    → elim (standing s k i) as (λ y. Bool) [ [] ↦ false | v ∷ vs ↦ true ] ≡ not (eqb i 0)
+standing-told : (s : List ℕ) (k : Kind) (i : ℕ) → some (standing s k i) ≡ not (eqb i 0)
 unfolding standing
 standing-told s k zero = refl
 standing-told s k (suc i) = sym (not-none i)
 
 -- A kind that stands at most once is among the parts exactly where its place is not 0.
 pub once-has : {s : List ℕ} {first q : ℕ} {us : List Part} {k : Kind} {i : ℕ} → Once s first q us k i → has k us ≡ not (eqb i 0)
-once-has {s} {us = us} {k = k} {i = i} o =
-    has-of k us
-    ∙ ap (λ (l : List Part). elim l as (λ y. Bool) [ [] ↦ false | v ∷ vs ↦ true ]) (o .parts)
-    ∙ standing-told s k i
+once-has {s} {us = us} {k = k} {i = i} o = has-of k us ∙ ap some (o .parts) ∙ standing-told s k i
 
 -- A place that is 0 before the first part: none stands.
 pub once-none : (s : List ℕ) (first : ℕ) (k : Kind) → Once s first first [] k 0
@@ -116,11 +102,8 @@ once-none s first k = record { parts = refl; stands = refl; within = λ h. absur
 other-place : {s : List ℕ} {first q : ℕ} {us : List Part} {k : Kind} (i : ℕ) (u : Part) (t : ℕ) → Once s first q us k i
     → sameKind k (u .kind) ≡ false → size u ≡ t → placeOf k first (us ++ u ∷ []) ≡ orHere i (q + t)
 unfolding orHere
-other-place {first = first} {q = q} {us = us} {k = k} zero u t o e l =
-    place-new k first us u (once-has o)
-    ∙ ap (λ (b : Bool). elim b as (λ y. ℕ) [ true ↦ placeOf k first us | false ↦ placeOf k first us + size u ]) e
-    ∙ ap₂ (λ (a b : ℕ). a + b) (o .stands) l
-other-place {first = first} {us = us} {k = k} (suc i) u t o e l = place-kept k first us u (once-has o ∙ not-none i) ∙ o .stands
+other-place {first = first} {us = us} {k = k} zero u t o e l = place-last k u first us ∙ rw (once-has o, e, l, o .stands)
+other-place {first = first} {us = us} {k = k} (suc i) u t o e l = place-last k u first us ∙ rw (once-has o, not-none i, o .stands) (add-zero (suc i))
 
 -- After a part of another kind, this kind stands where it stood.
 pub once-other : {s : List ℕ} {first q : ℕ} {us : List Part} {k : Kind} {i : ℕ} (u : Part) {t : ℕ} → Once s first q us k i
@@ -136,13 +119,7 @@ once-here {s} {first} {q} {us} {k} {i} t o h pos fits =
     let u : Part = partIn k (drop q s) in
     let z : i ≡ 0 = eqb-true i 0 (not-false (eqb i 0) (sym (once-has o) ∙ h)) in
     record {
-      parts =
-          kind-same k us u (sameKind-refl k) (o .parts ∙ standing-none s k z) ∙ sym (standing-one s k q pos);
-      stands =
-          place-new k first us u h
-          ∙ ap (λ (b : Bool). elim b as (λ y. ℕ) [ true ↦ placeOf k first us | false ↦ placeOf k first us + size u ]) (sameKind-refl k)
-          ∙ o .stands
-          ∙ ap (λ (a : ℕ). orHere a q) z
-          ∙ sym (here-one q (q + t) pos);
+      parts = kind-same k us u (sameKind-refl k) (o .parts ∙ standing-none s k z) ∙ sym (standing-one s k q pos);
+      stands = place-last k u first us ∙ rw (h, sameKind-refl k, o .stands, z, here-one q (q + t) pos) (add-zero q);
       within = λ b. fits;
     }

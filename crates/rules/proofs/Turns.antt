@@ -1,17 +1,17 @@
 -- A rule's subsection by its tag, and a turn of the loop over the subsections. Assumes nothing.
-use mathlib.Core.Path.{_≡_, refl, sym, ap, _∙_, subst}
-use mathlib.Core.Bool.{Bool, true, false, not}
+use mathlib.Core.Path.{_≡_, refl, sym, ap, _∙_}
+use mathlib.Core.Bool.{Bool, true, false}
 use mathlib.Core.List.{List, [], _∷_, _++_}
 use mathlib.Core.Logic.{_⊎_, inl, inr, ⊎-elim}
 use mathlib.Core.Option.{Option, none, some}
-use Prim.Native.Nat.{ℕ, zero, suc, _+_, _-_, _<_, _≤_}
+use Prim.Native.Nat.{ℕ, _+_, _-_, _<_, _≤_}
 use native.Mathlib.Omega.{arith}
-use lib.Dec.{eqb, ltb, leb}
+use lib.Dec.{ltb, leb}
 use lib.ListN.{length, getD, set, drop, length-drop, length-set, replicate, length-replicate, getD-replicate}
 use lib.Seq.{getD-set-same, getD-set-other}
-use borrow.Author.Tests.{eqb-true, ne-eqb, ltb-true, not-true}
+use borrow.Author.Tests.{eqb-true, ltb-true, not-true}
 use Rattle.format.specs.Bytes.{number, bytesAt}
-use Rattle.format.specs.Parts.{Kind, rule, transportVariant, transportRule, exportParameters, sourceRule, tokenParameters, tag, sameKind, Part, size}
+use Rattle.format.specs.Parts.{Kind, rule, tag, sameKind, Part, size}
 use Rattle.format.specs.Reading.{subsectionKind, Outcome, refused, found, fault, tested, stated, madeLength, partIn, subsectionChecks, subsection}
 use Rattle.format.specs.Rules.{has}
 use Rattle.format.proofs.Elements.{some-inj}
@@ -19,49 +19,33 @@ use Rattle.format.proofs.Finding.{every-kind, sameKind-eq, subsectionKind-sound
 use Rattle.format.proofs.Tests.{needed, tests-passed}
 use Rattle.format.proofs.Turns.{subsectionsFrom}
 use Rattle.rule_ids.proofs.Laws.{same-or}
-use Rattle.sections.specs.Refusals.{firstRefusal, subRefusal}
+use Rattle.sections.specs.Refusals.{subRefusal}
 use Rattle.sections.proofs.Laws.{at-drop}
-use Rattle.sections.proofs.Subs.{FoundAs, sub-finds, sub-known, at-here, loop-room, loop-on, length-last}
-use Rattle.rules.specs.Loops.{OfRule, Marked, Once, RuleRead}
-use Rattle.rules.proofs.Sizes.{part-size}
+use Rattle.sections.proofs.Subs.{FoundAs, sub-finds, at-here, loop-room, loop-on, length-last}
+use Rattle.rules.specs.Loops.{OfRule, Once, RuleRead}
+use Rattle.format.proofs.Reaching.{part-size}
 use Rattle.rules.proofs.Places.{once-none, once-other, once-here}
 
 -- ---- tags
 
 -- The last of the tags of a rule.
 pub tag-five : (t : ℕ) → (t ≡ 0 → ⊥) → t ≤ 5 → (t ≡ 1 → ⊥) → ((t ≡ 2) ⊎ (t ≡ 4) → ⊥) → (t ≡ 3 → ⊥) → t ≡ 5
-tag-five zero z h a b c = absurd (z refl)
-tag-five (suc zero) z h a b c = absurd (a refl)
-tag-five (suc (suc zero)) z h a b c = absurd (b (inl refl))
-tag-five (suc (suc (suc zero))) z h a b c = absurd (c refl)
-tag-five (suc (suc (suc (suc zero)))) z h a b c = absurd (b (inr refl))
-tag-five (suc (suc (suc (suc (suc n))))) z h a b c = omega arith
+tag-five t z h a b c =
+    let two : t ≡ 2 → ⊥ = λ e. b (inl e) in
+    let four : t ≡ 4 → ⊥ = λ e. b (inr e) in
+    omega arith
 
--- The kind that a tag tells in a rule, by the tests of the tag.
-abbrev told-by : Bool → Bool → Bool → Bool → Bool → Option Kind
-told-by a b c d e =
-    elim a [
-      | true ↦ some transportVariant
-      | false ↦
-          elim b [
-            | true ↦ some transportRule
-            | false ↦
-                elim c [
-                  | true ↦ some exportParameters
-                  | false ↦ elim d [ true ↦ some sourceRule | false ↦ elim e [ true ↦ some tokenParameters | false ↦ none ] ]
-                ]
-          ]
-    ]
+-- Every tag is below 6.
+pub tag-below : (k : Kind) → tag k < 6
+tag-below k = ltb-true (tag k) 6 (every-kind (λ j. ltb (tag j) 6) refl k)
 
--- No subsection of a rule has a tag above 5.
+-- So none above 5 tells a subsection of a rule.
 pub tag-past : (t : ℕ) → 5 < t → subsectionKind rule t ≡ none
-tag-past t h =
-    let other : (i : ℕ) → i ≤ 5 → eqb i t ≡ false = λ i b. ne-eqb i t (λ e. omega arith) in
-    go (eqb 1 t) (eqb 2 t) (eqb 3 t) (eqb 4 t) (eqb 5 t) (other 1 (omega arith)) (other 2 (omega arith)) (other 3 (omega arith))
-    (other 4 (omega arith)) (other 5 (omega arith))
+tag-past t h = go (subsectionKind rule t) refl
   where
-    go : (a b c d e : Bool) → a ≡ false → b ≡ false → c ≡ false → d ≡ false → e ≡ false → told-by a b c d e ≡ none
-    go a b c d e p q r u v = rw (p, q, r, u, v)
+    go : (m : Option Kind) → subsectionKind rule t ≡ m → m ≡ none
+    go none e = refl
+    go (some k) e = absurd (omega (arith, subsectionKind-sound rule t k e .2, tag-below k))
 
 -- Kinds with different tags are different.
 other-tag : (j k : Kind) → (tag j ≡ tag k → ⊥) → sameKind j k ≡ false
@@ -71,21 +55,7 @@ other-tag j k d = go (sameKind j k) refl
     go true e = absurd (d (ap tag (sameKind-eq j k e)))
     go false e = refl
 
--- Every tag is below 6.
-pub tag-below : (k : Kind) → tag k < 6
-tag-below k = ltb-true (tag k) 6 (every-kind (λ j. ltb (tag j) 6) refl k)
-
--- ---- a subsection of a kind
-
--- A rule's subsection with the tag t of kind k: the first refusal of its tests, where the places tell whether it is seen.
-pub rule-known : (x : Bool) (before : List Part) (n : ℕ) (s : List ℕ) (q : ℕ) (places : List ℕ) {m : ℕ} (k : Kind) (t : ℕ) → OfRule k
-    → Marked before places → 4 ≤ n → t ≡ number (bytesAt s q 2) → t ≡ tag k
-    → m ≡ firstRefusal (subsectionChecks x k (not (eqb (getD places t 0) 0)) n (drop q s)) → m ≡ subRefusal x rule before n (drop q s)
-rule-known x before n s q places k t o marks h l e f =
-    sub-known x rule before n (drop q s) k (not (eqb (getD places t 0) 0)) h
-    (ap (subsectionKind rule) (at-here s q 2 ∙ sym l ∙ e) ∙ o)
-    (marks k o ∙ ap (λ (i : ℕ). not (eqb (getD places i 0) 0)) (sym e))
-    f
+-- ---- a turn of the loop
 
 -- What an accepted subsection says: its tag does not stand before, and its counts make its length.
 sub-new : (x : Bool) (o k : Kind) (before : List Part) (at n : ℕ) (r : List ℕ) → subsectionKind o (number (bytesAt r 0 2)) ≡ some k
@@ -93,11 +63,9 @@ sub-new : (x : Bool) (o k : Kind) (before : List Part) (at n : ℕ) (r : List �
 unfolding subsection
 sub-new x o k before at n r e f =
     let a = needed (leb 4 n) _ _ (partIn k r) f .1 in
-    let b = sym (ap (λ (m : Option Kind). elim m as (λ y. Outcome Part) [ none ↦ refused (fault 13 at 0) | some j ↦ tested at (subsectionChecks x j (has j before) n r) (found (partIn j r)) ]) e) ∙ a in
+    let b = sym (ap (λ (m : Option Kind). elim m as (λ y. Outcome Part) [ none ↦ refused (fault 13 at at) | some j ↦ tested at (subsectionChecks x j (has j before) n r) (found (partIn j r)) ]) e) ∙ a in
     let c = tests-passed at (subsectionChecks x k (has k before) n r) (found (partIn k r)) (partIn k r) b .0 in
     (not-true (has k before) (c .1 .0), eqb-true (madeLength k r) (stated r) (c .1 .1 .1 .0))
-
--- ---- a turn of the loop
 
 -- Before the first subsection no tag stands.
 unfoldable pub rule-start : (s : List ℕ) (p e : ℕ) → p + 20 ≤ e → RuleRead s p e (p + 20) 1 (replicate 6 0)
@@ -105,8 +73,7 @@ rule-start s p e h =
     record {
       done = [];
       six = length-replicate {A = ℕ} 6 0;
-      once = λ k o.
-          subst (λ (i : ℕ). Once s (p + 20) (p + 20) [] k i) (sym (getD-replicate {A = ℕ} 6 (tag k) 0 0 (tag-below k))) (once-none s (p + 20) k);
+      once = λ k o. rw (getD-replicate {A = ℕ} 6 (tag k) 0 0 (tag-below k)) (once-none s (p + 20) k);
       rows = refl;
       few = omega arith;
       ends = h;
@@ -161,12 +128,8 @@ module _ {s : List ℕ} {p e q n : ℕ} {places : List ℕ} (w : RuleRead s p e 
       (λ d.
       let same : j ≡ k = some-inj (sym o ∙ ap (subsectionKind rule) d ∙ told) in
       let here : getD (set places g q) (tag j) 0 ≡ q = ap (λ (i : ℕ). getD (set places g q) i 0) d ∙ getD-set-same places g q 0 (omega (arith, w .six, tag-six)) in
-      subst (λ (y : Kind). Once s (p + 20) (q + t) (w .done ++ u ∷ []) y (getD (set places g q) (tag j) 0)) (sym same)
-      (subst (λ (i : ℕ). Once s (p + 20) (q + t) (w .done ++ u ∷ []) k i) (sym here)
-      (once-here t (w .once k (ap (subsectionKind rule) tag-told ∙ told)) (new .0) (omega arith) (omega (arith, new .1)))))
-      (λ d.
-      subst (λ (i : ℕ). Once s (p + 20) (q + t) (w .done ++ u ∷ []) j i) (sym (getD-set-other places g (tag j) q 0 d))
-      (once-other u (w .once j o) (other-tag j k (λ y. d (y ∙ tag-told))) long))
+      rw (here, same) (once-here t (w .once k (ap (subsectionKind rule) tag-told ∙ told)) (new .0) (omega arith) (omega (arith, new .1))))
+      (λ d. rw (getD-set-other places g (tag j) q 0 d) (once-other u (w .once j o) (other-tag j k (λ y. d (y ∙ tag-told))) long))
       (same-or (tag j) g)
 
   -- What is read after the part is what is read from the first one on.

@@ -2,16 +2,13 @@
 use mathlib.Core.Path.{_≡_, refl, sym, ap, _∙_, subst}
 use mathlib.Core.Bool.{Bool, true, false, not, _||_}
 use mathlib.Core.List.{List, []}
-use Prim.Native.Nat.{ℕ, _+_, _≤_, _<_}
+use Prim.Native.Nat.{ℕ, _+_, _/_, _%_, _≤_, _<_}
 use native.Mathlib.Omega.{arith}
 use lib.ListN.{length, getD, drop}
 use Rattle.format.specs.Bytes.{Bytes, number, bytesAt}
-use Rattle.format.specs.Forms.{ruleIdForm}
-use Rattle.format.specs.Parts.{Kind, rule, sameKind, Part}
-use Rattle.format.specs.Reading.{sectionKind}
+use Rattle.format.specs.Parts.{Kind, rule}
 use Rattle.format.specs.Rules.{Section, hasRequired}
-use Rattle.format.specs.Reading.{Outcome, found, asAnswer, stated, partIn, fieldChecks, kindBefore, ruleBefore, sectionChecks, afterSubsections, sectionRest}
-use Rattle.format.specs.Reading.{section}
+use Rattle.format.specs.Reading.{sectionKind, Outcome, found, asAnswer, stated, partIn, fieldChecks, kindBefore, ruleBefore, sectionChecks, afterSubsections, sectionRest, section}
 use Rattle.format.specs.declared.Answer.{Answer}
 use Rattle.format.specs.declared.Answer.the-variants.{Accepted, Refused}
 use Rattle.format.proofs.Tests.{found-inj, needed, followed}
@@ -19,7 +16,7 @@ use Rattle.fields.proofs.Sizes.{bytes-small}
 use Rattle.rule_ids.specs.Keys.{among, Put}
 use Rattle.sections.specs.Refusals.{firstRefusal, sectionRows}
 use Rattle.sections.proofs.Heads.{section-stops, section-goes}
-use Rattle.sections.proofs.Laws.{at-drop}
+use Rattle.sections.proofs.Laws.{all-hold, at-drop, number-at}
 use Rattle.rules.specs.Loops.{ruleOf}
 use Rattle.rules.specs.Ids.{EightBytes, Held, RuleAnswered}
 use Rattle.rule_subsections.proofs.Laws.{length-behind}
@@ -29,26 +26,18 @@ use Rattle.rules.proofs.Ids.{id-some, rule-key, held-put}
 
 -- ---- the Rule ID
 
--- Where no test refuses, the first has passed.
-first-case : (b : Bool) (h m r : ℕ) → (r ≡ 0 → ⊥) → h ≡ elim b as (λ x. ℕ) [ true ↦ m | false ↦ r ] → h ≡ 0 → b ≡ true
-first-case true h m r d e z = refl
-first-case false h m r d e z = absurd (d (sym e ∙ z))
-
 -- A rule whose fields pass has a Rule ID whose number is not 0.
 pub key-some : (s : List ℕ) (p : ℕ) {h v : ℕ} → h ≡ firstRefusal (fieldChecks false rule (drop p s)) → h ≡ 0
     → v ≡ number (bytesAt s (p + 4) 8) → 0 < v
-unfolding firstRefusal
-key-some s p {h} e z l =
-    let form = first-case (ruleIdForm (bytesAt (drop p s) 4 8)) h _ 17 (λ q. omega arith) e z in
-    let pos = id-some (bytesAt (drop p s) 4 8) form in
-    let same = l ∙ sym (ap number (at-drop s p 4 8)) in
-    omega (arith, pos)
+key-some s p e z l =
+    let form = all-hold (fieldChecks false rule (drop p s)) refl (sym z ∙ e) .0 in
+    omega (arith, id-some (bytesAt (drop p s) 4 8) form, number-at s p 4 8 l)
 
 -- It is eight bytes.
 pub eight-bytes : (s : List ℕ) (p : ℕ) → ((k : ℕ) → getD s k 0 < 256) → p + 20 ≤ length s → EightBytes (bytesAt (drop p s) 4 8)
 eight-bytes s p small h =
     record {
-      long = length-behind s p 4 8 (omega arith);
+      long = length-behind s p 4 refl (omega arith);
       bytes = subst Bytes (sym (at-drop s p 4 8)) (bytes-small s small (p + 4) 8);
     }
 
@@ -56,7 +45,7 @@ eight-bytes s p small h =
 pub key-told : (s : List ℕ) {p : ℕ} {before : List Section} {old new : List ℕ} {v : ℕ} {seen b : Bool} → Held before p old → Put old v seen new
     → EightBytes (bytesAt (drop p s) 4 8) → v ≡ number (bytesAt s (p + 4) 8) → 0 < v → seen ≡ b → ruleBefore (partIn rule (drop p s)) before ≡ b
 key-told s {p} {before} {old} {v = v} w put eight l pos e =
-    let same : v ≡ number (bytesAt (drop p s) 4 8) = l ∙ sym (ap number (at-drop s p 4 8)) in
+    let same : v ≡ number (bytesAt (drop p s) 4 8) = number-at s p 4 8 l in
     rule-key (partIn rule (drop p s)) before eight (w .eight)
     ∙ sym (w .holds (number (bytesAt (drop p s) 4 8)) (omega arith))
     ∙ ap (λ (k : ℕ). among k old) (sym same)
@@ -82,11 +71,11 @@ not-found f o a e g =
     let z : _≡_ {A = ℕ} 0 1 = cc in
     omega arith
 
-module _ (full x : Bool) (before : List Section) (s : List ℕ) (p : ℕ) (four : p + 4 ≤ length s) (id : number (bytesAt s p 1) ≡ 18) where
-  -- A rule with a number is refused with it, at its place.
+module _ (full x : Bool) (before : List Section) (s : List ℕ) (p : ℕ) (four : p + 4 ≤ length s) (id : number (bytesAt s p 1) ≡ 0x12) where
+  -- A rule with a number is refused as it says.
   pub rule-stops : {m : ℕ} {repeated : Bool} (ids : List ℕ) → ruleBefore (partIn rule (drop p s)) before ≡ repeated
       → m ≡ firstRefusal (sectionChecks x rule (kindBefore rule before) repeated (drop p s)) → (m ≡ 0 → ⊥)
-      → RuleAnswered full x before s p ids (Refused m p)
+      → RuleAnswered full x before s p ids (Refused (m % 256) (p + m / 256))
   rule-stops ids e f z =
       let same = section-stops full x rule before s p four (ap sectionKind id) refl e f z in
       record { same = same; held = λ t g. absurd (not-found sectionRows (section full x before p (drop p s)) t same g) }
@@ -99,16 +88,12 @@ module _ (full x : Bool) (before : List Section) (s : List ℕ) (p : ℕ) (four 
       → r ≡ asAnswer sectionRows (sectionRest full x rule p (drop p s)) → RuleAnswered full x before s p new r
   rule-goes {old} {new} {v} {seen} w put eight l long e f a =
       let goes = section-goes full x rule before s p four (ap sectionKind id) refl e f in
-      let same : v ≡ number (bytesAt (drop p s) 4 8) = l ∙ sym (ap number (at-drop s p 4 8)) in
+      let same : v ≡ number (bytesAt (drop p s) 4 8) = number-at s p 4 8 l in
       record {
         same = a ∙ sym (ap (asAnswer sectionRows) goes);
         held = λ t g.
             let head : t .head ≡ partIn rule (drop p s) = rest-head full x rule p (drop p s) t (sym goes ∙ g) in
-            held-put t w
-            (subst (λ (q : Part). Put old (number (getD (q .fields) 0 [])) seen new) (sym head) (subst (λ (k : ℕ). Put old k seen new) same put))
-            (omega arith)
-            (ap (λ (q : Part). sameKind rule (q .kind)) head)
-            (subst (λ (q : Part). EightBytes (getD (q .fields) 0 [])) (sym head) eight);
+            held-put {seen = seen} t w (rw (head, sym same) put) (omega arith) (rw head) (rw head eight);
       }
 
 -- ---- a rule without subsections

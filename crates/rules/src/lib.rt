@@ -18,14 +18,29 @@ ghost use Rattle.rules.specs.Ids.{Held, RuleAnswered};
 use crate::subsections::has_required;
 use crate::subsections::rule_subs;
 use fields::characters::rule_id_form;
+use fields::characters::rule_id_place;
 use fields::eight;
 use fields::four;
 use fields::keys::key_length;
 use fields::two;
 use fields::wide32;
 use format::Answer;
+use rule_ids::ID_PLACES;
 use rule_ids::put;
+use sections::at_offset;
+use sections::refused;
 use sections::section_head;
+
+// The refusals of the fields with their offsets (lib.rt of sections).
+const FLAGS: u32 = 11 + 256 * 12;
+
+const GENERATED_LENGTH: u32 = 11 + 256 * 16;
+
+const KEY_CHECK: u32 = 11 + 256 * 17;
+
+const SYMMETRIC_FORMAT: u32 = 11 + 256 * 18;
+
+const ASYMMETRIC_FORMAT: u32 = 11 + 256 * 19;
 
 // The fields of the rule at p.
 fn rule_fields(s: &[u8], page: &[u8; 256], p: usize) -> u32
@@ -33,42 +48,48 @@ fn rule_fields(s: &[u8], page: &[u8; 256], p: usize) -> u32
     ensures { λ r. ⌜ ((x : Bool) → r ≡ firstRefusal (fieldChecks x rule (drop p (now (s .entry))))) ⌝ }
 {
     if !rule_id_form(s, page, p + 4) {
-        return 17;
+        return at_offset(17, 4 + rule_id_place(s, p + 4));
     }
     let flags = four(s, p + 12);
     if 1 < flags {
-        return 11;
+        return FLAGS;
     }
     if flags == 0 && !key_length(s[p + 16]) {
-        return 11;
+        return GENERATED_LENGTH;
     }
     if 2 < s[p + 17] {
-        return 11;
+        return KEY_CHECK;
     }
     if wide32(s[p + 18]) != flags {
-        return 11;
+        return SYMMETRIC_FORMAT;
     }
     if 2 < s[p + 19] {
-        return 11;
+        return ASYMMETRIC_FORMAT;
     }
     0
 }
 
 // The rule at p, of which four bytes are there. The Rule IDs of the rules before it are in ids, and its own is put there.
-pub fn rule_at(s: &[u8], page: &[u8; 256], ids: &mut [u64; 704], p: usize, full: bool) -> Answer
-    requires { ⌜ (p + 4 ≤ length (now s)) × (length (now s) ≤ 3500) × (number (bytesAt (now s) p 1) ≡ 18) × Room (now ids) × Page (now page) ⌝ }
+pub fn rule_at(
+    s: &[u8],
+    page: &[u8; 256],
+    ids: &mut [u64; ID_PLACES],
+    p: usize,
+    full: bool,
+) -> Answer
+    requires { ⌜ (p + 4 ≤ length (now s)) × (length (now s) ≤ 3500) × (number (bytesAt (now s) p 1) ≡ 0x12) × Room (now ids) × Page (now page) ⌝ }
     ensures { λ r. ⌜ ((x : Bool) (before : List Section) → Held before p (now (ids .entry)) → RuleAnswered full x before (now (s .entry)) p (now (ids .exit)) r) ⌝ }
 {
     let h = section_head(s, p, 20, false);
     if h != 0 {
-        return Answer::Refused(h, p as u32);
+        return refused(h, p);
     }
     let f = rule_fields(s, page, p);
     if f != 0 {
-        return Answer::Refused(f, p as u32);
+        return refused(f, p);
     }
     if put(ids, eight(s, p + 4)) {
-        return Answer::Refused(9, p as u32);
+        return refused(9, p);
     }
     let len = two(s, p + 2);
     if len != 20 {

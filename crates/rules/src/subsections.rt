@@ -13,10 +13,12 @@ ghost use Rattle.rules.specs.Loops.{Marked, Within, standing, ruleOf};
 use fields::four;
 use fields::two;
 use format::Answer;
+use rule_subsections::parameters::MASK_LENGTH;
 use rule_subsections::parameters::export_at;
 use rule_subsections::parameters::token_at;
 use rule_subsections::references::reference_at;
 use rule_subsections::references::variant_at;
+use sections::refused;
 
 // The subsection at q of a rule, where n bytes are left; places has the place of each tag that stands before, 0 for others.
 fn rule_sub(s: &[u8], page: &[u8; 256], q: usize, n: usize, places: &[usize; 6]) -> u32
@@ -30,14 +32,14 @@ fn rule_sub(s: &[u8], page: &[u8; 256], q: usize, n: usize, places: &[usize; 6])
     if tag == 0 {
         return 13;
     }
-    if 5 < tag {
+    if 0x0005 < tag {
         return 13;
     }
     let seen = places[tag] != 0;
     match tag {
-        1 => variant_at(s, q, n, seen),
-        2 | 4 => reference_at(s, page, q, n, seen),
-        3 => export_at(s, q, n, seen),
+        0x0001 => variant_at(s, q, n, seen),
+        0x0002 | 0x0004 => reference_at(s, page, q, n, seen),
+        0x0003 => export_at(s, q, n, seen),
         _ => token_at(s, page, q, n, seen),
     }
 }
@@ -85,17 +87,17 @@ pub fn rule_subs(s: &[u8], page: &[u8; 256], p: usize, e: usize, full: bool) -> 
     while q < e {
         let f = rule_sub(s, page, q, e - q, &places);
         if f != 0 {
-            return Answer::Refused(f, q as u32);
+            return refused(f, q);
         }
         let tag = two(s, q);
         places[tag] = q;
         n += 1;
         q += two(s, q + 2);
     }
-    let a = places[3];
-    let b = places[5];
+    let a = places[0x0003];
+    let b = places[0x0005];
     if !mask_covers(s, a, b) {
-        return Answer::Refused(18, b as u32);
+        return refused(MASK_LENGTH, b);
     }
     if !has_required(s, p, full, a != 0) {
         return Answer::Refused(20, p as u32);

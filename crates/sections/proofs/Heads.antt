@@ -1,26 +1,25 @@
 -- A section of a known kind, by the number of its first refusal: the outcome that the definition gives.
-use mathlib.Core.Path.{_≡_, refl, sym, ap, ap₂, _∙_, subst}
-use mathlib.Core.Bool.{Bool, true, false, not, _&&_, _||_}
-use mathlib.Core.List.{List, [], _∷_}
+use mathlib.Core.Path.{_≡_, refl, sym, ap, ap₂, _∙_}
+use mathlib.Core.Bool.{Bool, true, false, not, _&&_, _||_, or-true}
+use mathlib.Core.List.{List, []}
 use mathlib.Core.Option.{Option, none, some}
-use Prim.Native.Nat.{ℕ, suc, _+_, _-_, _≤_}
+use Prim.Native.Nat.{ℕ, suc, _+_, _-_, _/_, _%_, _≤_}
 use native.Mathlib.Omega.{arith}
 use lib.Dec.{eqb, leb}
 use lib.ListN.{length, getD, drop, length-drop}
 use lib.Seq.{drop-drop}
-use borrow.Author.Tests.{eqb-true, eqb-false, le-leb, not-true}
-use Rattle.format.specs.Bytes.{number, bytesAt, allZero}
+use borrow.Author.Tests.{eqb-true, le-leb}
+use Rattle.format.specs.Bytes.{number, bytesAt}
 use Rattle.format.specs.Parts.{Kind, rule, information, sameKind}
-use Rattle.format.specs.Reading.{sectionKind, Outcome, refused, found, fault, andThen, tested, asAnswer, stated, madeLength, partIn}
-use Rattle.format.specs.Rules.{Check, Section, hasRequired}
-use Rattle.format.specs.Reading.{kindBefore, ruleBefore, sectionChecks, afterSubsections, sectionRest, section}
+use Rattle.format.specs.Reading.{sectionKind, Outcome, refused, found, fault, andThen, tested, asAnswer, stated, madeLength, partIn, kindBefore, ruleBefore, sectionChecks, maskOffset, afterSubsections, sectionRest, section}
+use Rattle.format.specs.Rules.{Section, hasRequired}
 use Rattle.format.specs.declared.Answer.the-variants.{Refused}
-use Rattle.format.proofs.Finding.{and-split, every-kind}
-use Rattle.format.proofs.Tests.{Hold, need-passed, then-found}
+use Rattle.format.proofs.Finding.{every-kind}
+use Rattle.format.proofs.Tests.{need-passed, then-found}
 use Rattle.format.proofs.Turns.{subsectionsFrom, subs-from, subs-none}
-use Rattle.sections.specs.Refusals.{firstRefusal, headChecks, sectionRows}
-use Rattle.sections.proofs.Laws.{numbered, room-case}
-use Rattle.sections.proofs.Subs.{RefusedAs, refused-same, refused-told, stops, leads, at-here}
+use Rattle.sections.specs.Refusals.{firstRefusal, sectionRows}
+use Rattle.sections.proofs.Laws.{numbered, all-hold}
+use Rattle.sections.proofs.Subs.{refused-same, refused-told, stops, leads, at-here}
 
 -- Every test of a section has a number.
 section-numbered : (x : Bool) (k : Kind) (seen repeated : Bool) (r : List ℕ) → numbered (sectionChecks x k seen repeated r) ≡ true
@@ -37,20 +36,19 @@ module _ (full x : Bool) (k : Kind) (before : List Section) (s : List ℕ) (p : 
   unfolding section
   known h e =
       let l = length-drop p s in
-      need-passed (leb 4 (length (drop p s))) (fault 6 p 0) _ (le-leb 4 (length (drop p s)) (omega arith))
-      ∙ ap (λ (m : Option Kind). elim m as (λ y. Outcome Section) [ none ↦ refused (fault 7 p 0) | some j ↦ tested p (sectionChecks x j (kindBefore j before) (ruleBefore (partIn j (drop p s)) before) (drop p s)) (sectionRest full x j p (drop p s)) ])
+      need-passed (leb 4 (length (drop p s))) (fault 6 p p) _ (le-leb 4 (length (drop p s)) (omega arith))
+      ∙ ap (λ (m : Option Kind). elim m as (λ y. Outcome Section) [ none ↦ refused (fault 7 p p) | some j ↦ tested p (sectionChecks x j (kindBefore j before) (ruleBefore (partIn j (drop p s)) before) (drop p s)) (sectionRest full x j p (drop p s)) ])
       (ap sectionKind (at-here s p 1) ∙ e)
 
   -- A section with a number is refused with it, at its place.
   pub section-stops : {m : ℕ} {seen repeated : Bool} → p + 4 ≤ length s → sectionKind (number (bytesAt s p 1)) ≡ some k
       → kindBefore k before ≡ seen → ruleBefore (partIn k (drop p s)) before ≡ repeated
-      → m ≡ Tests seen repeated → (m ≡ 0 → ⊥) → Refused m p ≡ asAnswer sectionRows (section full x before p (drop p s))
+      → m ≡ Tests seen repeated → (m ≡ 0 → ⊥) → Refused (m % 256) (p + m / 256) ≡ asAnswer sectionRows (section full x before p (drop p s))
   section-stops {m} h e a b f z =
       let g : m ≡ Tests (kindBefore k before) (ruleBefore (partIn k (drop p s)) before) = f ∙ ap₂ Tests (sym a) (sym b) in
       refused-told sectionRows
       (refused-same (known h e)
-      (subst (λ (y : ℕ). RefusedAs (tested p (sectionChecks x k (kindBefore k before) (ruleBefore (partIn k (drop p s)) before) (drop p s)) (sectionRest full x k p (drop p s))) y p)
-      (sym g) (stops p _ _ (λ q. z (g ∙ q)))))
+      (stops p _ _ (section-numbered x k (kindBefore k before) (ruleBefore (partIn k (drop p s)) before) (drop p s)) g z))
 
   -- One without a number is what its subsections and its end make of it.
   pub section-goes : {seen repeated : Bool} → p + 4 ≤ length s → sectionKind (number (bytesAt s p 1)) ≡ some k
@@ -60,21 +58,6 @@ module _ (full x : Bool) (k : Kind) (before : List Section) (s : List ℕ) (p : 
       let g = f ∙ ap₂ Tests (sym a) (sym b) in
       known h e
       ∙ leads p _ _ (section-numbered x k (kindBefore k before) (ruleBefore (partIn k (drop p s)) before) (drop p s)) (sym g)
-
--- What the tests of a section's head leave: its least length, and so its fixed fields, lie within the token.
-version-case : (b : Bool) (h m : ℕ) → h ≡ elim b as (λ x. ℕ) [ true ↦ m | false ↦ 8 ] → h ≡ 0 → h ≡ m
-version-case true h m e z = e
-version-case false h m e z = absurd (omega arith)
-
-pub head-room : {h : ℕ} (m : ℕ) (seen : Bool) (s : List ℕ) (p : ℕ) → h ≡ firstRefusal (headChecks m seen (drop p s)) → h ≡ 0
-    → (m ≤ stated (drop p s)) × (stated (drop p s) ≤ length s - p)
-unfolding firstRefusal headChecks
-head-room {h} m seen s p e z =
-    let r : List ℕ = drop p s in
-    let l = length-drop p s in
-    let v = version-case (allZero (bytesAt r 1 1)) h _ e z in
-    let c = room-case (leb m (stated r)) (leb (stated r) (length r)) h _ 6 m (stated r) (length r) refl refl (λ q. omega arith) z v in
-    (c .0, omega (arith, c .1))
 
 -- After its own fields a section that ends at e is its subsections and its end.
 pub section-rest : (full x : Bool) (k : Kind) (s : List ℕ) (p e : ℕ) → p + madeLength k (drop p s) ≤ e → e ≡ p + stated (drop p s)
@@ -102,31 +85,10 @@ plain-rest full x k p r e a b =
     (subs-from (suc (stated r)) x k [] (p + m) (stated r - m) (drop m r) (omega arith)
     ∙ ap (λ (n : ℕ). subsectionsFrom x k [] (p + m) n (drop m r)) none
     ∙ subs-none x k [] (p + m) (drop m r))
-    ∙ need-passed true (fault 18 (p + m) 5) _ refl
-    ∙ need-passed (not full || hasRequired s) (fault 20 p 0) (found s) (free full (hasRequired s) (required a b))
-  where
-    free : (f c : Bool) → c ≡ true → (not f || c) ≡ true
-    free true c q = q
-    free false c q = refl
-
-    required : sameKind rule k ≡ false → sameKind information k ≡ false → hasRequired (record { head = partIn k r; subs = [] }) ≡ true
-    required q w =
-        ap₂ (λ (u v : Bool). (not (u && eqb (number (getD (partIn k r .fields) 1 [])) 1) || false) && (not v || false)) q w
-
--- ---- sections without subsections
-
--- Where no test of a list fails, each passes.
-hold-case : (b : Bool) (h m r : ℕ) → not (eqb r 0) ≡ true → h ≡ 0 → h ≡ elim b as (λ x. ℕ) [ true ↦ m | false ↦ r ] → (b ≡ true) × (h ≡ m)
-hold-case true h m r q z e = (refl, e)
-hold-case false h m r q z e = absurd (eqb-false r 0 (not-true (eqb r 0) q) (sym e ∙ z))
-
-pub all-hold : (cs : List Check) → numbered cs ≡ true → 0 ≡ firstRefusal cs → Hold cs
-unfolding firstRefusal
-all-hold [] f e = tt
-all-hold (c ∷ cs) f e =
-    let s = and-split (not (eqb (c .refusal) 0)) (numbered cs) f in
-    let h = hold-case (c .holds) 0 (firstRefusal cs) (c .refusal) (s .0) refl e in
-    (h .0, all-hold cs (s .1) (h .1))
+    ∙ need-passed true (fault 18 (p + m) (p + m + maskOffset)) _ refl
+    ∙ need-passed (not full || hasRequired s) (fault 20 p p) (found s)
+    (ap (λ (c : Bool). not full || c) (ap₂ (λ (u v : Bool). (not (u && eqb (number (getD (partIn k r .fields) 1 [])) 1) || false) && (not v || false)) a b)
+    ∙ or-true (not full))
 
 -- A section of a kind without subsections that has no number is found as it is.
 pub plain-found : (full x : Bool) (k : Kind) (before : List Section) (s : List ℕ) (p : ℕ) {seen repeated : Bool} → p + 4 ≤ length s

@@ -1,27 +1,26 @@
 -- One subsection, by the number of its first refusal: the outcome that the definition gives.
-use mathlib.Core.Path.{_≡_, refl, sym, ap, ap₂, _∙_, subst}
-use mathlib.Core.Bool.{Bool, true, false, not, _||_, or-false, or-assoc}
+use mathlib.Core.Path.{_≡_, refl, sym, ap, ap₂, _∙_}
+use mathlib.Core.Bool.{Bool, true, false, _||_, or-false, or-assoc}
 use mathlib.Core.List.{List, [], _∷_, _++_, append-nil}
 use mathlib.Core.Option.{Option, none, some}
-use Prim.Native.Nat.{ℕ, suc, _+_, _-_, _<_, _≤_}
+use Prim.Native.Nat.{ℕ, suc, _+_, _-_, _/_, _%_, _<_, _≤_}
 use native.Mathlib.Nat.{add-zero}
 use native.Mathlib.Omega.{arith}
-use lib.Dec.{eqb, leb}
+use lib.Dec.{leb}
 use lib.ListN.{length, drop, length-append}
 use lib.Seq.{drop-drop}
-use borrow.Author.Tests.{eqb-false, le-leb, lt-leb, not-true}
+use borrow.Author.Tests.{le-leb, lt-leb}
 use Rattle.format.specs.Bytes.{number, bytesAt}
 use Rattle.format.specs.Parts.{Kind, sameKind, Part}
-use Rattle.format.specs.Reading.{subsectionKind}
-use Rattle.format.specs.Rules.{Check, has, ofKind}
-use Rattle.format.specs.Reading.{Fault, fault, place, Outcome, refused, found, need, andThen, tested, asAnswer, stated, partIn, subsectionChecks, subsection}
+use Rattle.format.specs.Reading.{subsectionKind, Fault, fault, Test, Outcome, refused, found, need, andThen, tested, asAnswer, stated, partIn, subsectionChecks, subsection}
+use Rattle.format.specs.Rules.{has, ofKind}
 use Rattle.format.specs.declared.Answer.the-variants.{Refused}
-use Rattle.format.proofs.Finding.{and-split, every-kind}
+use Rattle.format.proofs.Finding.{every-kind}
 use Rattle.format.proofs.Beginnings.{kind-join}
-use Rattle.format.proofs.Tests.{then-found}
+use Rattle.format.proofs.Tests.{then-found, tests-lead}
 use Rattle.format.proofs.Turns.{subsectionsFrom, subs-more, sub-step}
-use Rattle.sections.specs.Refusals.{firstRefusal, subRefusal}
-use Rattle.sections.proofs.Laws.{numbered, at-drop}
+use Rattle.sections.specs.Refusals.{coded, firstRefusal, subRefusal}
+use Rattle.sections.proofs.Laws.{numbered, numbered-first, all-hold, at-drop}
 
 -- ---- lists of tests
 
@@ -30,7 +29,7 @@ pub record RefusedAs {A : Type 0} (o : Outcome A) (n at : ℕ) : Type 0 where
   pub why : Fault
   pub same : o ≡ refused why
   pub number : why .number ≡ n
-  pub stands : place why ≡ at
+  pub stands : why .place ≡ at
 
 -- It is told as such, whatever would be counted, and it goes straight out.
 pub refused-told : {A : Type 0} {o : Outcome A} {n at : ℕ} (f : A → ℕ) → RefusedAs o n at → Refused n at ≡ asAnswer f o
@@ -44,84 +43,32 @@ refused-then next r = record { why = r .why; same = ap (λ y. andThen y next) (r
 pub refused-same : {A : Type 0} {o p : Outcome A} {n at : ℕ} → o ≡ p → RefusedAs p n at → RefusedAs o n at
 refused-same e r = record { why = r .why; same = e ∙ r .same; number = r .number; stands = r .stands }
 
--- The tests of a list stop at the first that fails.
-stop-test : {A : Type 0} (b : Bool) (n at f m : ℕ) (rest : Outcome A) → ((m ≡ 0 → ⊥) → RefusedAs rest m at)
-    → (_≡_ {A = ℕ} (elim b [ true ↦ m | false ↦ n ]) 0 → ⊥)
-    → RefusedAs (need b (fault n at f) rest) (elim b as (λ x. ℕ) [ true ↦ m | false ↦ n ]) at
-unfolding need
-stop-test true n at f m rest ih h = ih h
-stop-test false n at f m rest ih h = record { why = fault n at f; same = refl; number = refl; stands = refl }
+-- The refusal is the one of this number, whose part begins at `at`.
+abbrev pub RefusedBy : {A : Type 0} → Outcome A → ℕ → ℕ → Type 0
+RefusedBy o m at = RefusedAs o (m % 256) (at + m / 256)
 
-pub stops : {A : Type 0} (at : ℕ) (cs : List Check) (rest : Outcome A) → (firstRefusal cs ≡ 0 → ⊥)
-    → RefusedAs (tested at cs rest) (firstRefusal cs) at
+refused-by : {A : Type 0} (n o at p : ℕ) {m : ℕ} → n < 256 → p ≡ at + o → m ≡ coded n o → RefusedBy {A = A} (refused (fault n at p)) m at
+refused-by n o at p h q e = record { why = fault n at p; same = refl; number = omega arith; stands = omega arith }
+
+-- The tests of a list stop at the first that fails.
+stop-test : {A : Type 0} (b : Bool) (f : Fault) (rest : Outcome A) (m n k at : ℕ) → (m ≡ n → RefusedBy {A = A} (refused f) m at)
+    → (m ≡ k → RefusedBy rest m at) → m ≡ elim b as (λ x. ℕ) [ true ↦ k | false ↦ n ] → RefusedBy (need b f rest) m at
+unfolding need
+stop-test true f rest m n k at a b e = b e
+stop-test false f rest m n k at a b e = a e
+
+pub stops : {A : Type 0} {m : ℕ} (at : ℕ) (cs : List Test) (rest : Outcome A) → numbered cs ≡ true → m ≡ firstRefusal cs → (m ≡ 0 → ⊥)
+    → RefusedBy (tested at cs rest) m at
 unfolding tested firstRefusal
-stops at [] rest h = absurd (h refl)
-stops at (c ∷ cs) rest h =
-    stop-test (c .holds) (c .refusal) at (c .field) (firstRefusal cs) (tested at cs rest) (λ k. stops at cs rest k) h
+stops at [] rest f e h = absurd (h e)
+stops {m = m} at (c ∷ cs) rest f e h =
+    let s = numbered-first c cs f in
+    stop-test (c .holds) _ (tested at cs rest) m _ (firstRefusal cs) at
+    (λ q. refused-by (c .refusal) (c .offset) at (at + c .offset) (s .1) refl q) (λ q. stops at cs rest (s .2) q h) e
 
 -- Where none fails they lead to the rest.
-lead-test : {A : Type 0} (b : Bool) (n at f m : ℕ) (rest z : Outcome A) → not (eqb n 0) ≡ true → (m ≡ 0 → rest ≡ z)
-    → _≡_ {A = ℕ} (elim b [ true ↦ m | false ↦ n ]) 0 → need b (fault n at f) rest ≡ z
-unfolding need
-lead-test true n at f m rest z q ih e = ih e
-lead-test false n at f m rest z q ih e = absurd (eqb-false n 0 (not-true (eqb n 0) q) e)
-
-pub leads : {A : Type 0} (at : ℕ) (cs : List Check) (rest : Outcome A) → numbered cs ≡ true → firstRefusal cs ≡ 0 → tested at cs rest ≡ rest
-unfolding tested firstRefusal
-leads at [] rest f e = refl
-leads at (c ∷ cs) rest f e =
-    let s = and-split (not (eqb (c .refusal) 0)) (numbered cs) f in
-    lead-test (c .holds) (c .refusal) at (c .field) (firstRefusal cs) (tested at cs rest) rest (s .0) (λ k. leads at cs rest (s .1) k) e
-
--- ---- a subsection
-
--- Every test of a subsection has a number.
-sub-numbered : (x : Bool) (k : Kind) (seen : Bool) (n : ℕ) (r : List ℕ) → numbered (subsectionChecks x k seen n r) ≡ true
-sub-numbered x k seen n r = every-kind (λ j. numbered (subsectionChecks x j seen n r)) refl k
-
-module _ (x : Bool) (o : Kind) (before : List Part) (at n : ℕ) (r : List ℕ) where
-  -- The subsection's outcome by the kind that its tag tells.
-  by-kind : Option Kind → Outcome Part
-  by-kind m = elim m [ none ↦ refused (fault 13 at 0) | some k ↦ tested at (subsectionChecks x k (has k before) n r) (found (partIn k r)) ]
-
-  by-number : Option Kind → ℕ
-  by-number m = elim m [ none ↦ 13 | some k ↦ firstRefusal (subsectionChecks x k (has k before) n r) ]
-
-  kind-stops : (m : Option Kind) → (by-number m ≡ 0 → ⊥) → RefusedAs (by-kind m) (by-number m) at
-  unfolding by-kind by-number
-  kind-stops none h = record { why = fault 13 at 0; same = refl; number = refl; stands = refl }
-  kind-stops (some k) h = stops at (subsectionChecks x k (has k before) n r) (found (partIn k r)) h
-
-  -- A subsection with a number is refused with it, at its place.
-  sub-stops : {m : ℕ} → m ≡ subRefusal x o before n r → (m ≡ 0 → ⊥) → RefusedAs (subsection x o before at n r) m at
-  unfolding subsection subRefusal by-kind by-number
-  sub-stops e h =
-      let told : Option Kind = subsectionKind o (number (bytesAt r 0 2)) in
-      subst (λ (y : ℕ). RefusedAs (subsection x o before at n r) y at) (sym e)
-      (stop-test (leb 4 n) 12 at 0 (by-number told) (by-kind told) (λ k. kind-stops told k) (λ z. h (e ∙ z)))
-
-  -- One without a number is found, as the kind that its tag tells.
-  pub record FoundAs : Type 0 where
-    pub kind : Kind
-    pub told : subsectionKind o (number (bytesAt r 0 2)) ≡ some kind
-    pub same : subsection x o before at n r ≡ found (partIn kind r)
-
-  find-kind : (b : Bool) (m : Option Kind) → leb 4 n ≡ b → subsectionKind o (number (bytesAt r 0 2)) ≡ m
-      → _≡_ {A = ℕ} (elim b [ false ↦ 12 | true ↦ by-number m ]) 0 → FoundAs
-  unfolding by-number subsection need
-  find-kind false m q w e = absurd (omega arith)
-  find-kind true none q w e = absurd (omega arith)
-  find-kind true (some k) q w e = record {
-    kind = k;
-    told = w;
-    same =
-        ap₂ (λ (c : Bool) (y : Option Kind). need c (fault 12 at 0) (elim y as (λ z. Outcome Part) [ none ↦ refused (fault 13 at 0) | some j ↦ tested at (subsectionChecks x j (has j before) n r) (found (partIn j r)) ])) q w
-        ∙ leads at (subsectionChecks x k (has k before) n r) (found (partIn k r)) (sub-numbered x k (has k before) n r) e;
-  }
-
-  pub sub-finds : {m : ℕ} → m ≡ subRefusal x o before n r → m ≡ 0 → FoundAs
-  unfolding subRefusal by-number
-  sub-finds e z = find-kind (leb 4 n) (subsectionKind o (number (bytesAt r 0 2))) refl refl (sym e ∙ z)
+pub leads : {A : Type 0} (at : ℕ) (cs : List Test) (rest : Outcome A) → numbered cs ≡ true → firstRefusal cs ≡ 0 → tested at cs rest ≡ rest
+leads at cs rest f e = tests-lead at cs rest (all-hold cs f (sym e))
 
 -- ---- the number of a subsection, by its tag
 
@@ -131,20 +78,68 @@ module _ (x : Bool) (o : Kind) (before : List Part) (n : ℕ) (r : List ℕ) whe
   unfolding subRefusal
   sub-short h = rw (lt-leb 4 n h, subRefusal)
 
+  -- By the kind that its tag tells.
+  abbrev by-number : Option Kind → ℕ
+  by-number m = elim m [ none ↦ 13 | some k ↦ firstRefusal (subsectionChecks x k (has k before) n r) ]
+
+  sub-told : {m : Option Kind} → 4 ≤ n → subsectionKind o (number (bytesAt r 0 2)) ≡ m → by-number m ≡ subRefusal x o before n r
+  unfolding subRefusal
+  sub-told h e = sym (ap₂ (λ (b : Bool) (y : Option Kind). elim b as (λ z. ℕ) [ false ↦ 12 | true ↦ by-number y ]) (le-leb 4 n h) e)
+
   -- A tag that is unknown here.
   pub sub-unknown : 4 ≤ n → subsectionKind o (number (bytesAt r 0 2)) ≡ none → 13 ≡ subRefusal x o before n r
-  unfolding subRefusal
-  sub-unknown h e =
-      sym (ap₂ (λ (b : Bool) (m : Option Kind). elim b as (λ y. ℕ) [ false ↦ 12 | true ↦ elim m as (λ z. ℕ) [ none ↦ 13 | some k ↦ firstRefusal (subsectionChecks x k (has k before) n r) ] ]) (le-leb 4 n h) e)
+  sub-unknown h e = sub-told h e
 
   -- A tag of a kind: the first refusal of its tests.
   pub sub-known : {m : ℕ} (k : Kind) (seen : Bool) → 4 ≤ n → subsectionKind o (number (bytesAt r 0 2)) ≡ some k → has k before ≡ seen
       → m ≡ firstRefusal (subsectionChecks x k seen n r) → m ≡ subRefusal x o before n r
+  sub-known k seen h e q w = w ∙ ap (λ (b : Bool). firstRefusal (subsectionChecks x k b n r)) (sym q) ∙ sub-told h e
+
+-- ---- a subsection
+
+-- Every test of a subsection has a number.
+sub-numbered : (x : Bool) (k : Kind) (seen : Bool) (n : ℕ) (r : List ℕ) → numbered (subsectionChecks x k seen n r) ≡ true
+sub-numbered x k seen n r = every-kind (λ j. numbered (subsectionChecks x j seen n r)) refl k
+
+module _ (x : Bool) (o : Kind) (before : List Part) (at n : ℕ) (r : List ℕ) where
+  -- The subsection's outcome by the kind that its tag tells.
+  abbrev by-kind : Option Kind → Outcome Part
+  by-kind m = elim m [ none ↦ refused (fault 13 at at) | some k ↦ tested at (subsectionChecks x k (has k before) n r) (found (partIn k r)) ]
+
+  kind-stops : {m : ℕ} (t : Option Kind) → m ≡ by-number x o before n r t → (m ≡ 0 → ⊥) → RefusedBy (by-kind t) m at
+  kind-stops none e h = refused-by 13 0 at at (omega arith) (omega arith) e
+  kind-stops (some k) e h = stops at (subsectionChecks x k (has k before) n r) (found (partIn k r)) (sub-numbered x k (has k before) n r) e h
+
+  -- A subsection with a number is refused with it, at its place.
+  sub-stops : {m : ℕ} → m ≡ subRefusal x o before n r → (m ≡ 0 → ⊥) → RefusedBy (subsection x o before at n r) m at
+  unfolding subsection subRefusal
+  sub-stops e h =
+      let told : Option Kind = subsectionKind o (number (bytesAt r 0 2)) in
+      stop-test (leb 4 n) (fault 12 at at) (by-kind told) _ 12 (by-number x o before n r told) at
+      (λ q. refused-by 12 0 at at (omega arith) (omega arith) q) (λ q. kind-stops told q h) e
+
+  -- One without a number is found, as the kind that its tag tells.
+  pub record FoundAs : Type 0 where
+    pub kind : Kind
+    pub told : subsectionKind o (number (bytesAt r 0 2)) ≡ some kind
+    pub same : subsection x o before at n r ≡ found (partIn kind r)
+
+  find-kind : (b : Bool) (m : Option Kind) → leb 4 n ≡ b → subsectionKind o (number (bytesAt r 0 2)) ≡ m
+      → _≡_ {A = ℕ} (elim b [ false ↦ 12 | true ↦ by-number x o before n r m ]) 0 → FoundAs
+  unfolding subsection need
+  find-kind false m q w e = absurd (omega arith)
+  find-kind true none q w e = absurd (omega arith)
+  find-kind true (some k) q w e = record {
+    kind = k;
+    told = w;
+    same =
+        ap₂ (λ (c : Bool) (y : Option Kind). need c (fault 12 at at) (by-kind y)) q w
+        ∙ leads at (subsectionChecks x k (has k before) n r) (found (partIn k r)) (sub-numbered x k (has k before) n r) e;
+  }
+
+  pub sub-finds : {m : ℕ} → m ≡ subRefusal x o before n r → m ≡ 0 → FoundAs
   unfolding subRefusal
-  sub-known k seen h e q w =
-      w
-      ∙ ap (λ (b : Bool). firstRefusal (subsectionChecks x k b n r)) (sym q)
-      ∙ sym (ap₂ (λ (b : Bool) (m : Option Kind). elim b as (λ y. ℕ) [ false ↦ 12 | true ↦ elim m as (λ z. ℕ) [ none ↦ 13 | some j ↦ firstRefusal (subsectionChecks x j (has j before) n r) ] ]) (le-leb 4 n h) e)
+  sub-finds e z = find-kind (leb 4 n) (subsectionKind o (number (bytesAt r 0 2))) refl refl (sym e ∙ z)
 
 -- ---- a turn of the loop over the subsections of a section that ends at e
 
@@ -155,7 +150,7 @@ at-here s q n = ap number (at-drop s q 0 n ∙ ap (λ (i : ℕ). bytesAt s i n) 
 module _ (s : List ℕ) (x : Bool) (o : Kind) (done : List Part) (q e : ℕ) (h : q < e) where
   -- The subsection at q is refused: so are the subsections from q on.
   pub loop-stops : {m : ℕ} → m ≡ subRefusal x o done (e - q) (drop q s) → (m ≡ 0 → ⊥)
-      → RefusedAs (subsectionsFrom x o done q (e - q) (drop q s)) m q
+      → RefusedBy (subsectionsFrom x o done q (e - q) (drop q s)) m q
   loop-stops f z =
       refused-same (subs-more x o done q (e - q) (drop q s) (omega arith))
       (refused-then _ (sub-stops x o done q (e - q) (drop q s) f z))

@@ -9,8 +9,9 @@ ghost use Rattle.format.specs.Bytes.{number, bytesAt};
 ghost use Rattle.format.specs.Rules.{has, Section};
 ghost use Rattle.format.specs.Reading.{fieldChecks, subsectionChecks, stated, asAnswer, sectionRest, section, kindBefore};
 ghost use Rattle.sections.specs.Refusals.{firstRefusal, subRefusal, sectionRows};
+use crate::fixed_subsection_head;
+use crate::refused;
 use crate::section_head;
-use crate::subsection_head;
 use fields::all_zero;
 use fields::dates::date_exists;
 use fields::dates::in_order;
@@ -18,16 +19,29 @@ use fields::four;
 use fields::two;
 use format::Answer;
 
+// The refusals of the fields with their offsets (lib.rt).
+const INFORMATION_RESERVED: u32 = 10 + 256 * 4;
+
+const INFORMATION_FLAGS: u32 = 11 + 256 * 6;
+
+const MKVP: u32 = 21 + 256 * 46;
+
+const DATES_FLAGS: u32 = 11 + 256 * 6;
+
+const ACTIVATION: u32 = 19 + 256 * 8;
+
+const EXPIRATION: u32 = 19 + 256 * 12;
+
 // The fields of the section 14 at p.
 fn information_fields(s: &[u8], p: usize) -> u32
     requires { ⌜ (p + 10 ≤ length (now s)) × (length (now s) ≤ 3500) ⌝ }
     ensures { λ r. ⌜ ((x : Bool) → r ≡ firstRefusal (fieldChecks x information (drop p (now (s .entry))))) ⌝ }
 {
     if two(s, p + 4) != 0 {
-        return 10;
+        return INFORMATION_RESERVED;
     }
     if 1 < four(s, p + 6) {
-        return 11;
+        return INFORMATION_FLAGS;
     }
     0
 }
@@ -37,21 +51,15 @@ fn protection_at(s: &[u8], q: usize, n: usize, external: bool, seen: bool) -> u3
     requires { ⌜ (4 ≤ n) × (q + n ≤ length (now s)) × (length (now s) ≤ 3500) ⌝ }
     ensures { λ r. ⌜ r ≡ firstRefusal (subsectionChecks external protection seen n (drop q (now (s .entry)))) ⌝ }
 {
-    let h = subsection_head(s, q, n, 62, seen);
+    let h = fixed_subsection_head(s, q, n, 62, seen);
     if h != 0 {
         return h;
-    }
-    if two(s, q + 2) != 62 {
-        return 12;
-    }
-    if s[q + 5] != 0 {
-        return 10;
     }
     if !external {
         return 0;
     }
     if !all_zero(s, q + 46, 16) {
-        return 21;
+        return MKVP;
     }
     0
 }
@@ -61,31 +69,25 @@ fn dates_at(s: &[u8], q: usize, n: usize, seen: bool) -> u32
     requires { ⌜ (4 ≤ n) × (q + n ≤ length (now s)) × (length (now s) ≤ 3500) ⌝ }
     ensures { λ r. ⌜ ((x : Bool) → r ≡ firstRefusal (subsectionChecks x dates seen n (drop q (now (s .entry))))) ⌝ }
 {
-    let h = subsection_head(s, q, n, 16, seen);
+    let h = fixed_subsection_head(s, q, n, 16, seen);
     if h != 0 {
         return h;
     }
-    if two(s, q + 2) != 16 {
-        return 12;
-    }
-    if s[q + 5] != 0 {
-        return 10;
-    }
     let flags = two(s, q + 6);
     if 1 < flags {
-        return 11;
+        return DATES_FLAGS;
     }
     if flags != 1 {
         return 0;
     }
     if !date_exists(s, q + 8) {
-        return 19;
+        return ACTIVATION;
     }
     if !date_exists(s, q + 12) {
-        return 19;
+        return EXPIRATION;
     }
     if !in_order(s, q + 8, q + 12) {
-        return 19;
+        return EXPIRATION;
     }
     0
 }
@@ -106,10 +108,10 @@ fn information_sub(
         return 12;
     }
     let tag = two(s, q);
-    if tag == 1 {
+    if tag == 0x0001 {
         return protection_at(s, q, n, external, protected);
     }
-    if tag == 2 {
+    if tag == 0x0002 {
         return dates_at(s, q, n, dated);
     }
     13
@@ -127,9 +129,9 @@ fn information_subs(s: &[u8], p: usize, e: usize, external: bool, full: bool) ->
     while q < e {
         let f = information_sub(s, q, e - q, external, protected, dated);
         if f != 0 {
-            return Answer::Refused(f, q as u32);
+            return refused(f, q);
         }
-        if two(s, q) == 1 {
+        if two(s, q) == 0x0001 {
             protected = true;
         } else {
             dated = true;
@@ -148,16 +150,16 @@ fn information_subs(s: &[u8], p: usize, e: usize, external: bool, full: bool) ->
 
 // The section 14 at p, of which four bytes are there; seen: a section 14 stands before.
 pub fn information_at(s: &[u8], p: usize, external: bool, full: bool, seen: bool) -> Answer
-    requires { ⌜ (p + 4 ≤ length (now s)) × (length (now s) ≤ 3500) × (number (bytesAt (now s) p 1) ≡ 20) ⌝ }
+    requires { ⌜ (p + 4 ≤ length (now s)) × (length (now s) ≤ 3500) × (number (bytesAt (now s) p 1) ≡ 0x14) ⌝ }
     ensures { λ r. ⌜ ((before : List Section) → kindBefore information before ≡ seen → r ≡ asAnswer sectionRows (section full external before p (drop p (now (s .entry))))) ⌝ }
 {
     let h = section_head(s, p, 10, seen);
     if h != 0 {
-        return Answer::Refused(h, p as u32);
+        return refused(h, p);
     }
     let f = information_fields(s, p);
     if f != 0 {
-        return Answer::Refused(f, p as u32);
+        return refused(f, p);
     }
     let e = p + two(s, p + 2);
     information_subs(s, p, e, external, full)

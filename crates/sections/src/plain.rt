@@ -6,10 +6,11 @@ ghost use lib.ListN.{length, drop};
 ghost use Rattle.format.specs.Parts.{name, applicationData};
 ghost use Rattle.format.specs.Reading.{sectionChecks};
 ghost use Rattle.sections.specs.Refusals.{firstRefusal};
+use crate::SECTION_INNER_LENGTHS;
 use crate::section_head;
 use fields::two;
 
-// The number of the first refusal of the section 13 at p, of which four bytes are there; seen: a section 13 stands before.
+// The first refusal of the section 13 at p, of which four bytes are there; seen: a section 13 stands before.
 pub fn name_at(s: &[u8], p: usize, seen: bool) -> u32
     requires { ⌜ (p + 4 ≤ length (now s)) × (length (now s) ≤ 3500) ⌝ }
     ensures { λ r. ⌜ ((x repeated : Bool) → r ≡ firstRefusal (sectionChecks x name seen repeated (drop p (now (s .entry))))) ⌝ }
@@ -19,7 +20,7 @@ pub fn name_at(s: &[u8], p: usize, seen: bool) -> u32
         return h;
     }
     if two(s, p + 2) != 68 {
-        return 15;
+        return SECTION_INNER_LENGTHS;
     }
     0
 }
@@ -34,7 +35,7 @@ pub fn application_data_at(s: &[u8], p: usize, seen: bool) -> u32
         return h;
     }
     if 6 + two(s, p + 4) != two(s, p + 2) {
-        return 15;
+        return SECTION_INNER_LENGTHS;
     }
     0
 }

@@ -71,7 +71,7 @@ behind-all bs l k h = behind-at bs 8 k ∙ ap (stepAt bs) (walk-legal bs l k h .
 
 -- An illegal token gives the reading's refusal at once, and it stays.
 pub behind-refused : (bs : List ℕ) (f : Fault) (k : ℕ) → reading true bs ≡ refused f
-    → stepAfter bs 8 k ≡ Stopped (f .number) (f .part)
+    → stepAfter bs 8 k ≡ Stopped (f .number) (f .place)
 behind-refused bs f k e = behind-at bs 8 k ∙ step-refused bs f (walkPlace k bs 8) e
 
 -- In the paper's numbers, for a row asked for by its number: 0 exactly where a legal token has it, 22 exactly after its last
@@ -148,5 +148,5 @@ same-rows token w s f l = (
 
 -- Over an illegal token each of its steps is the reading's refusal.
 pub same-refusal : (token : RefT (List ℕ)) (w : ℕ → Walker) (s : ℕ → Step) → Followed token w s → (g : Fault) (k : ℕ)
-    → reading true (now token) ≡ refused g → s k ≡ Stopped (g .number) (g .part)
+    → reading true (now token) ≡ refused g → s k ≡ Stopped (g .number) (g .place)
 same-refusal token w s f g k e = same-steps token w s f k ∙ behind-refused (now token) g k e

@@ -1,7 +1,7 @@
 //! Sections 12 with their subsections.
 
-use super::signs::{is_label_template, is_rule_id};
-use super::{refuse, subsection_frame, Judged, Progress};
+use super::signs::{is_label_template, is_rule_id, wrong_in_label, wrong_in_rule_id};
+use super::{refuse, subsection_frame, Judged, Progress, LENGTH};
 
 /// Rule IDs met so far as big-endian numbers, by open addressing. No Rule ID
 /// is 0, so 0 marks a free slot; 3,500 bytes hold 174 rules at most.
@@ -47,13 +47,13 @@ pub fn rule<const ALL: bool>(
     progress: &mut Progress,
 ) -> Judged<()> {
     let Some((fixed, subsections)) = section.split_first_chunk::<20>() else {
-        return refuse(6, place);
+        return refuse(6, place + LENGTH);
     };
     let [_, _, _, _, a, b, c, d, e, f, g, h, ..] = *fixed;
     let [.., f0, f1, f2, flags, generated, check, symmetric, asymmetric] = *fixed;
     let rule_id = [a, b, c, d, e, f, g, h];
     if !is_rule_id(rule_id) {
-        return refuse(17, place);
+        return refuse(17, place + 4 + wrong_in_rule_id(rule_id));
     }
     let right = f0 | f1 | f2 == 0
         && flags <= 1
@@ -62,7 +62,7 @@ pub fn rule<const ALL: bool>(
         && symmetric == flags
         && asymmetric <= 2;
     if !right {
-        return refuse(11, place);
+        return refuse(11, place + wrong_value(fixed));
     }
     if !rule_ids.add(u64::from_be_bytes(rule_id)) {
         return refuse(9, place);
@@ -75,6 +75,23 @@ pub fn rule<const ALL: bool>(
         return Ok(());
     }
     rule_subsections::<ALL>(subsections, place, flags == 1, progress)
+}
+
+/// Where the first field of a rule stands that has a value not allowed.
+#[cold]
+fn wrong_value(fixed: &[u8; 20]) -> usize {
+    let [.., f0, f1, f2, flags, generated, check, symmetric, _] = *fixed;
+    if f0 | f1 | f2 != 0 || flags > 1 {
+        12
+    } else if flags == 0 && !is_key_length(generated) {
+        16
+    } else if check > 2 {
+        17
+    } else if symmetric != flags {
+        18
+    } else {
+        19
+    }
 }
 
 /// The subsections of the rule at `rule_place`, its own tests after them.
@@ -106,7 +123,7 @@ fn rule_subsections<const ALL: bool>(
     }
     // Without a 0003 the minimum is 0, without a 0005 the mask is.
     if mask != 0 && mask < minimum {
-        return refuse(18, mask_place);
+        return refuse(18, mask_place + 8);
     }
     if ALL && export && minimum == 0 {
         return refuse(20, rule_place);
@@ -117,10 +134,10 @@ fn rule_subsections<const ALL: bool>(
 #[inline(always)]
 fn transport_variant(subsection: &[u8], place: usize) -> Judged<()> {
     if subsection.len() != 8 + usize::from(subsection[7]) {
-        return refuse(12, place);
+        return refuse(12, place + LENGTH);
     }
     if subsection[5] | subsection[6] != 0 {
-        return refuse(10, place);
+        return refuse(10, place + 5);
     }
     Ok(())
 }
@@ -128,13 +145,13 @@ fn transport_variant(subsection: &[u8], place: usize) -> Judged<()> {
 #[inline(always)]
 fn rule_reference(subsection: &[u8], place: usize) -> Judged<()> {
     let Ok([_, _, _, _, _, reserved, rule_id @ ..]) = <[u8; 14]>::try_from(subsection) else {
-        return refuse(12, place);
+        return refuse(12, place + LENGTH);
     };
     if reserved != 0 {
-        return refuse(10, place);
+        return refuse(10, place + 5);
     }
     if !is_rule_id(rule_id) {
-        return refuse(17, place);
+        return refuse(17, place + 6 + wrong_in_rule_id(rule_id));
     }
     Ok(())
 }
@@ -145,13 +162,13 @@ fn export_parameters(subsection: &[u8], place: usize) -> Judged<u8> {
     let variant = usize::from(subsection[10]);
     let cv = match subsection.get(11 + variant) {
         Some(cv) if subsection.len() == 12 + variant + usize::from(*cv) => *cv,
-        _ => return refuse(12, place),
+        _ => return refuse(12, place + LENGTH),
     };
     if subsection[5] | subsection[6] != 0 {
-        return refuse(10, place);
+        return refuse(10, place + 5);
     }
     if subsection[7] != 0 {
-        return refuse(11, place);
+        return refuse(11, place + 7);
     }
     let (minimum, maximum) = (subsection[8], subsection[9]);
     let right = is_key_length(minimum)
@@ -160,9 +177,23 @@ fn export_parameters(subsection: &[u8], place: usize) -> Judged<u8> {
         && (variant == 0 || variant >= usize::from(maximum))
         && matches!(cv, 0 | 8 | 16);
     if !right {
-        return refuse(18, place);
+        return refuse(18, place + wrong_length(minimum, maximum, variant));
     }
     Ok(minimum)
+}
+
+/// Where the first field of a 0003 stands that breaks a rule on lengths.
+#[cold]
+fn wrong_length(minimum: u8, maximum: u8, variant: usize) -> usize {
+    if !is_key_length(minimum) {
+        8
+    } else if !is_key_length(maximum) || minimum > maximum {
+        9
+    } else if variant != 0 && variant < usize::from(maximum) {
+        10
+    } else {
+        11 + variant
+    }
 }
 
 /// Gives the mask's length.
@@ -172,19 +203,22 @@ fn token_parameters(subsection: &[u8], place: usize) -> Judged<u8> {
     let masks = 2 * usize::from(mask);
     let label = match subsection.get(9 + masks) {
         Some(label) if subsection.len() == 10 + masks + usize::from(*label) => *label,
-        _ => return refuse(12, place),
+        _ => return refuse(12, place + LENGTH),
     };
     if subsection[5] | subsection[6] != 0 {
-        return refuse(10, place);
+        return refuse(10, place + 5);
     }
     if subsection[7] != 0 {
-        return refuse(11, place);
+        return refuse(11, place + 7);
     }
     if !matches!(mask, 0 | 8 | 16) || !matches!(label, 0 | 64) {
-        return refuse(18, place);
+        let mask_right = matches!(mask, 0 | 8 | 16);
+        return refuse(18, place + if mask_right { 9 + masks } else { 8 });
     }
-    if label == 64 && !is_label_template(&subsection[10 + masks..]) {
-        return refuse(17, place);
+    let label_place = 10 + masks;
+    if label == 64 && !is_label_template(&subsection[label_place..]) {
+        let wrong = wrong_in_label(&subsection[label_place..]);
+        return refuse(17, place + label_place + wrong);
     }
     Ok(mask)
 }

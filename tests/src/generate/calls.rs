@@ -1,7 +1,7 @@
 //! Sequences of writer calls, good and bad, on buffers of many sizes.
 
 use super::damage::damaged;
-use super::field_faults::{bad_label, bad_rule_id};
+use super::form_faults::{bad_label, bad_rule_id};
 use super::legal::{self, legal};
 use super::values;
 use crate::kinds::{EXTERNAL, INTERNAL};

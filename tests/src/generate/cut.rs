@@ -25,7 +25,7 @@ impl Piece {
     }
 
     /// The number of the field that holds the piece's own length.
-    fn length_field(&self) -> usize {
+    pub fn length_field(&self) -> usize {
         if self.is_section() {
             2
         } else {
@@ -44,8 +44,12 @@ impl Piece {
 /// Where a fault lies.
 #[derive(Clone, Copy, Debug)]
 pub enum At {
-    Header,
+    /// A field of the header.
+    Header(usize),
+    /// The start of a piece.
     Piece(usize),
+    /// A byte of a field of a piece: the piece, the field, the byte.
+    Field(usize, usize, usize),
     End,
 }
 
@@ -54,6 +58,11 @@ pub enum At {
 pub struct Expected {
     pub number: u32,
     pub at: At,
+}
+
+/// The bytes of the fields before one.
+fn before(fields: &[Vec<u8>], field: usize) -> usize {
+    fields[..field].iter().map(Vec::len).sum()
 }
 
 #[derive(Clone, Debug)]
@@ -99,13 +108,17 @@ impl CutToken {
     pub fn answer(&self, expected: Expected) -> Answer {
         let Expected { number, at } = expected;
         if self.size() > LONGEST && ![1, 2, 3].contains(&number) {
-            return Answer::new(4, 0);
+            return Answer::new(4, before(&self.header, 2));
         }
-        match at {
-            At::Header => Answer::new(number, 0),
-            At::Piece(index) => Answer::new(number, self.place_of(index)),
-            At::End => Answer::new(number, self.size()),
-        }
+        let place = match at {
+            At::Header(field) => before(&self.header, field),
+            At::Piece(index) => self.place_of(index),
+            At::Field(index, field, byte) => {
+                self.place_of(index) + before(&self.pieces[index].fields, field) + byte
+            }
+            At::End => self.size(),
+        };
+        Answer::new(number, place)
     }
 
     /// The index after the last piece of the section at `index`.

@@ -2,7 +2,7 @@
 //! fields and flags. Alone in a legal token each gives the answer it states.
 
 use super::cut::{At, CutToken, Expected, Piece};
-use super::{field_faults as field, part_faults as part};
+use super::{field_faults as field, form_faults as form, part_faults as part};
 use crate::kinds::{
     ALL, DATES, EXPORT_PARAMETERS, EXTERNAL, INFORMATION, INTERNAL, PROTECTION, PUBLIC_KEY, RULE,
     SOURCE_RULE, TOKEN_PARAMETERS, TRANSPORT_RULE,
@@ -47,8 +47,8 @@ pub const CONTENT: &[Fault] = &[
     fault("even modulus", field::even_modulus),
     fault("even exponent", field::even_exponent),
     fault("exponent too large", field::exponent_too_large),
-    fault("rule id form", field::rule_id_form),
-    fault("label template form", field::label_form),
+    fault("rule id form", form::rule_id_form),
+    fault("label template form", form::label_form),
     fault("minimum", field::minimum),
     fault("maximum", field::maximum),
     fault("minimum above maximum", field::minimum_above_maximum),
@@ -85,14 +85,27 @@ pub const LENGTHS: &[Fault] = &[
     fault("inner length of a subsection", part::inner_of_subsection),
 ];
 
-pub fn at_header(number: u32) -> Option<Expected> {
-    let at = At::Header;
+/// At a field of the header.
+pub fn at_header(number: u32, field: usize) -> Option<Expected> {
+    let at = At::Header(field);
     Some(Expected { number, at })
 }
 
+/// At the start of a piece.
 pub fn at_piece(number: u32, index: usize) -> Option<Expected> {
     let at = At::Piece(index);
     Some(Expected { number, at })
+}
+
+/// At the first byte of a field of a piece.
+pub fn at_field(number: u32, index: usize, field: usize) -> Option<Expected> {
+    let at = At::Field(index, field, 0);
+    Some(Expected { number, at })
+}
+
+/// At a piece's own length.
+pub fn at_length(number: u32, index: usize, cut: &CutToken) -> Option<Expected> {
+    at_field(number, index, cut.pieces[index].length_field())
 }
 
 /// Gives a field of any piece of these kinds other bytes of the same length.
@@ -106,7 +119,7 @@ fn set(
 ) -> Option<Expected> {
     let index = cut.any_of(random, kinds)?;
     *cut.pieces[index].fields.get_mut(field)? = bytes;
-    at_piece(number, index)
+    at_field(number, index, field)
 }
 
 fn header_id(cut: &mut CutToken, random: &mut Random) -> Option<Expected> {
@@ -115,17 +128,17 @@ fn header_id(cut: &mut CutToken, random: &mut Random) -> Option<Expected> {
         return None;
     }
     cut.header[0] = vec![id];
-    at_header(2)
+    at_header(2, 0)
 }
 
 fn header_version(cut: &mut CutToken, random: &mut Random) -> Option<Expected> {
     cut.header[1] = vec![random.nonzero_byte()];
-    at_header(3)
+    at_header(3, 1)
 }
 
 fn header_reserved(cut: &mut CutToken, random: &mut Random) -> Option<Expected> {
     cut.header[3] = random.nonzero_bytes(4);
-    at_header(5)
+    at_header(5, 3)
 }
 
 fn section_id(cut: &mut CutToken, random: &mut Random) -> Option<Expected> {
@@ -171,7 +184,7 @@ fn version(cut: &mut CutToken, random: &mut Random) -> Option<Expected> {
     let index = cut.any_of(random, &ALL)?;
     let field = if cut.pieces[index].is_section() { 1 } else { 2 };
     *cut.pieces[index].fields.get_mut(field)? = vec![random.nonzero_byte()];
-    at_piece(8, index)
+    at_field(8, index, field)
 }
 
 fn reserved(cut: &mut CutToken, random: &mut Random) -> Option<Expected> {
@@ -187,7 +200,7 @@ fn reserved(cut: &mut CutToken, random: &mut Random) -> Option<Expected> {
         _ => 2,
     };
     *cut.pieces[index].fields.get_mut(3)? = random.nonzero_bytes(length);
-    at_piece(10, index)
+    at_field(10, index, 3)
 }
 
 /// Four bytes of flags other than 0 and 1.
@@ -235,7 +248,7 @@ fn generated_length(cut: &mut CutToken, random: &mut Random) -> Option<Expected>
     }
     let index = random.pick(&found);
     cut.pieces[index].fields[5] = vec![length];
-    at_piece(11, index)
+    at_field(11, index, 5)
 }
 
 fn key_check(cut: &mut CutToken, random: &mut Random) -> Option<Expected> {
@@ -248,7 +261,7 @@ fn symmetric_format(cut: &mut CutToken, random: &mut Random) -> Option<Expected>
     let right = cut.pieces[index].fields[4][3];
     let value = random.pick(&[1 - right.min(1), 2, 3, 255]);
     cut.pieces[index].fields[7] = vec![value];
-    at_piece(11, index)
+    at_field(11, index, 7)
 }
 
 fn asymmetric_format(cut: &mut CutToken, random: &mut Random) -> Option<Expected> {

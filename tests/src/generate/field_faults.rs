@@ -1,12 +1,11 @@
-//! Single faults in the public key, Rule IDs, label templates, 0003, 0005 and
-//! dates. Lengths are brought in line after each.
+//! Single faults in the public key, the lengths of 0003 and 0005, and dates.
+//! Lengths are brought in line after each.
 
 use super::cut::{CutToken, Expected};
-use super::faults::at_piece;
+use super::faults::at_field;
 use super::values::{self, with_leading_zeros};
-use crate::kinds::{
-    DATES, EXPORT_PARAMETERS, PUBLIC_KEY, RULE, SOURCE_RULE, TOKEN_PARAMETERS, TRANSPORT_RULE,
-};
+use crate::forms::date_exists;
+use crate::kinds::{DATES, EXPORT_PARAMETERS, PUBLIC_KEY, TOKEN_PARAMETERS};
 use crate::random::Random;
 use crate::reader::number;
 
@@ -22,10 +21,12 @@ fn two_bytes(length: usize) -> Vec<u8> {
 }
 
 /// Changes the exponent and the modulus, brings their lengths in line, and
-/// expects a broken public key rule.
+/// expects a broken public key rule at a field; at x, which is tested first,
+/// where the exponent has got too long.
 fn change_key(
     cut: &mut CutToken,
     random: &mut Random,
+    field: usize,
     change: impl FnOnce(&mut Vec<u8>, &mut Vec<u8>, &mut Random),
 ) -> Option<Expected> {
     let index = cut.any_of(random, &[PUBLIC_KEY])?;
@@ -35,16 +36,17 @@ fn change_key(
         return None;
     }
     change(&mut exponent, &mut modulus, random);
+    let field = if exponent.len() > 512 { X } else { field };
     fields[X] = two_bytes(exponent.len());
     fields[Y] = two_bytes(modulus.len());
     fields[EXPONENT] = exponent;
     fields[MODULUS] = modulus;
     cut.bring_lengths_in_line();
-    at_piece(16, index)
+    at_field(16, index, field)
 }
 
 pub fn exponent_length(cut: &mut CutToken, random: &mut Random) -> Option<Expected> {
-    change_key(cut, random, |exponent, _, random| {
+    change_key(cut, random, X, |exponent, _, random| {
         *exponent = match random.below(3) {
             0 => vec![],
             1 => with_leading_zeros(exponent, 513),
@@ -67,13 +69,21 @@ pub fn modulus_bits(cut: &mut CutToken, random: &mut Random) -> Option<Expected>
     if other == bits || other > 65535 {
         return None;
     }
+    let length = cut.pieces[index].fields[MODULUS].len();
     cut.pieces[index].fields[BITS] = two_bytes(other);
-    at_piece(16, index)
+    let field = if !(512..=4096).contains(&other) {
+        BITS
+    } else if other.div_ceil(8) != length {
+        Y
+    } else {
+        MODULUS
+    };
+    at_field(16, index, field)
 }
 
 /// One byte more or fewer than the bits need.
 pub fn modulus_length(cut: &mut CutToken, random: &mut Random) -> Option<Expected> {
-    change_key(cut, random, |_, modulus, random| match random.below(3) {
+    change_key(cut, random, Y, |_, modulus, random| match random.below(3) {
         0 => modulus.insert(0, 0),
         1 => drop(modulus.pop()),
         _ => drop(modulus.remove(0)),
@@ -82,7 +92,7 @@ pub fn modulus_length(cut: &mut CutToken, random: &mut Random) -> Option<Expecte
 
 /// The highest bit cleared, or one above it set where there is room.
 pub fn significant_bits(cut: &mut CutToken, random: &mut Random) -> Option<Expected> {
-    change_key(cut, random, |_, modulus, random| {
+    change_key(cut, random, MODULUS, |_, modulus, random| {
         let free = modulus[0].leading_zeros();
         if free > 0 && free < 8 && random.coin() {
             modulus[0] |= 0x80 >> random.below(free as usize);
@@ -93,14 +103,14 @@ pub fn significant_bits(cut: &mut CutToken, random: &mut Random) -> Option<Expec
 }
 
 pub fn even_modulus(cut: &mut CutToken, random: &mut Random) -> Option<Expected> {
-    change_key(cut, random, |_, modulus, _| {
+    change_key(cut, random, MODULUS, |_, modulus, _| {
         let last = modulus.len() - 1;
         modulus[last] &= 0xFE;
     })
 }
 
 pub fn even_exponent(cut: &mut CutToken, random: &mut Random) -> Option<Expected> {
-    change_key(cut, random, |exponent, _, random| {
+    change_key(cut, random, EXPONENT, |exponent, _, random| {
         let last = exponent.len() - 1;
         if random.once_in(4) {
             *exponent = random.pick::<&[u8]>(&[&[2], &[0], &[0, 0]]).to_vec();
@@ -112,7 +122,7 @@ pub fn even_exponent(cut: &mut CutToken, random: &mut Random) -> Option<Expected
 
 /// The modulus itself, or an odd number above it.
 pub fn exponent_too_large(cut: &mut CutToken, random: &mut Random) -> Option<Expected> {
-    change_key(cut, random, |exponent, modulus, random| {
+    change_key(cut, random, EXPONENT, |exponent, modulus, random| {
         *exponent = modulus.clone();
         match random.below(4) {
             0 => {}
@@ -125,62 +135,6 @@ pub fn exponent_too_large(cut: &mut CutToken, random: &mut Random) -> Option<Exp
             }
         }
     })
-}
-
-/// Eight bytes that are no Rule ID.
-pub fn bad_rule_id(random: &mut Random) -> Vec<u8> {
-    let mut field = values::rule_id(random);
-    match random.below(5) {
-        0 => field = vec![b' '; 8],
-        1 => field[0] = b' ',
-        2 => {
-            let last = random.between(1, 7);
-            field[last] = b'A';
-            field[random.below(last)] = b' ';
-        }
-        3 => field[7] = random.pick(&[0, 0x1F, 0x21, b'.', 0xA0]),
-        _ => field[random.below(8)] = random.pick(b"@[`{/:.,^*#$+\0\x7F\x80\xC1\xE1\xFF"),
-    }
-    field
-}
-
-pub fn rule_id_form(cut: &mut CutToken, random: &mut Random) -> Option<Expected> {
-    let index = cut.any_of(random, &[RULE, TRANSPORT_RULE, SOURCE_RULE])?;
-    let field = if cut.pieces[index].is_section() { 3 } else { 4 };
-    *cut.pieces[index].fields.get_mut(field)? = bad_rule_id(random);
-    at_piece(17, index)
-}
-
-/// Sixty-four bytes that are no label template.
-pub fn bad_label(random: &mut Random) -> Vec<u8> {
-    let mut field = values::label_template(random);
-    let signs = field.iter().filter(|sign| **sign != b' ').count();
-    match random.below(7) {
-        0 => field = vec![b' '; 64],
-        1 => field[0] = random.pick(b"059"),
-        2 => field[0] = b' ',
-        3 => {
-            field[..3].copy_from_slice(random.pick(&[b"*A*", b"**A", b"A*B", b"A* "]));
-            let last = random.between(3, 63);
-            field[last] = b'B';
-        }
-        4 => field[..3].copy_from_slice(random.pick(&[b"A *", b"1* ", b" *A", b"A B"])),
-        5 => {
-            let place = random.below(signs);
-            field[place] = random.pick(b"-_%&!\"'(+./:?[^`{\0\x1F\x7F\x80\xC1\xFF");
-        }
-        _ => field[63] = random.pick(&[0, b'-', 0xFF, b'_']),
-    }
-    field
-}
-
-pub fn label_form(cut: &mut CutToken, random: &mut Random) -> Option<Expected> {
-    let index = cut.any_of(random, &[TOKEN_PARAMETERS])?;
-    let fields = &mut cut.pieces[index].fields;
-    *fields.get_mut(8)? = vec![64];
-    *fields.get_mut(9)? = bad_label(random);
-    cut.bring_lengths_in_line();
-    at_piece(17, index)
 }
 
 /// A byte other than 8, 16 and 24.
@@ -196,13 +150,13 @@ fn no_key_length(random: &mut Random) -> u8 {
 pub fn minimum(cut: &mut CutToken, random: &mut Random) -> Option<Expected> {
     let index = cut.any_of(random, &[EXPORT_PARAMETERS])?;
     *cut.pieces[index].fields.get_mut(5)? = vec![no_key_length(random)];
-    at_piece(18, index)
+    at_field(18, index, 5)
 }
 
 pub fn maximum(cut: &mut CutToken, random: &mut Random) -> Option<Expected> {
     let index = cut.any_of(random, &[EXPORT_PARAMETERS])?;
     *cut.pieces[index].fields.get_mut(6)? = vec![no_key_length(random)];
-    at_piece(18, index)
+    at_field(18, index, 6)
 }
 
 pub fn minimum_above_maximum(cut: &mut CutToken, random: &mut Random) -> Option<Expected> {
@@ -211,7 +165,7 @@ pub fn minimum_above_maximum(cut: &mut CutToken, random: &mut Random) -> Option<
     let fields = &mut cut.pieces[index].fields;
     fields[5] = vec![minimum];
     fields[6] = vec![maximum];
-    at_piece(18, index)
+    at_field(18, index, 6)
 }
 
 /// Gives a counted field and its count other bytes, lengths in line.
@@ -226,7 +180,7 @@ pub fn variant_length(cut: &mut CutToken, random: &mut Random) -> Option<Expecte
     let index = cut.any_of(random, &[EXPORT_PARAMETERS])?;
     let length = random.between(1, 7);
     set_counted(cut, index, 7, 8, random.bytes(length));
-    at_piece(18, index)
+    at_field(18, index, 7)
 }
 
 pub fn variant_below_maximum(cut: &mut CutToken, random: &mut Random) -> Option<Expected> {
@@ -236,14 +190,14 @@ pub fn variant_below_maximum(cut: &mut CutToken, random: &mut Random) -> Option<
     cut.pieces[index].fields[6] = vec![maximum];
     let length = random.pick(&[8, usize::from(maximum) - 1]);
     set_counted(cut, index, 7, 8, random.bytes(length));
-    at_piece(18, index)
+    at_field(18, index, 7)
 }
 
 pub fn cv_length(cut: &mut CutToken, random: &mut Random) -> Option<Expected> {
     let index = cut.any_of(random, &[EXPORT_PARAMETERS])?;
     let length = random.pick(&[1, 7, 9, 15, 17, 24, 255]);
     set_counted(cut, index, 9, 10, random.bytes(length));
-    at_piece(18, index)
+    at_field(18, index, 9)
 }
 
 fn set_mask(cut: &mut CutToken, random: &mut Random, index: usize, length: usize) {
@@ -255,7 +209,7 @@ pub fn mask_length(cut: &mut CutToken, random: &mut Random) -> Option<Expected> 
     let index = cut.any_of(random, &[TOKEN_PARAMETERS])?;
     let length = random.pick(&[1, 4, 7, 9, 15, 17, 24, 255]);
     set_mask(cut, random, index, length);
-    at_piece(18, index)
+    at_field(18, index, 5)
 }
 
 /// The rule gets a 0003 whose minimum is above the mask of its 0005.
@@ -269,7 +223,7 @@ pub fn mask_below_minimum(cut: &mut CutToken, random: &mut Random) -> Option<Exp
     cut.pieces[export].fields[6] = vec![24];
     set_counted(cut, export, 7, 8, random.bytes(variant));
     set_mask(cut, random, limits, mask);
-    at_piece(18, limits)
+    at_field(18, limits, 5)
 }
 
 pub fn label_length(cut: &mut CutToken, random: &mut Random) -> Option<Expected> {
@@ -281,7 +235,7 @@ pub fn label_length(cut: &mut CutToken, random: &mut Random) -> Option<Expected>
         random.bytes(length)
     };
     set_counted(cut, index, 8, 9, bytes);
-    at_piece(18, index)
+    at_field(18, index, 8)
 }
 
 /// Flags 0 become 1, so that the dates are judged; other flags stay.
@@ -293,12 +247,15 @@ fn judge_dates(cut: &mut CutToken, index: usize) -> Option<()> {
     Some(())
 }
 
+/// At the first of the two that is no date: where nobody judged them before,
+/// the activation may be any bytes.
 pub fn no_such_date(cut: &mut CutToken, random: &mut Random) -> Option<Expected> {
     let index = cut.any_of(random, &[DATES])?;
     judge_dates(cut, index)?;
     let field = random.pick(&[5, 6]);
     *cut.pieces[index].fields.get_mut(field)? = values::bad_date(random);
-    at_piece(19, index)
+    let first = date_exists(cut.pieces[index].fields.get(5)?);
+    at_field(19, index, if first { 6 } else { 5 })
 }
 
 pub fn dates_out_of_order(cut: &mut CutToken, random: &mut Random) -> Option<Expected> {
@@ -310,5 +267,5 @@ pub fn dates_out_of_order(cut: &mut CutToken, random: &mut Random) -> Option<Exp
     judge_dates(cut, index)?;
     cut.pieces[index].fields[5] = second;
     cut.pieces[index].fields[6] = first;
-    at_piece(19, index)
+    at_field(19, index, 6)
 }

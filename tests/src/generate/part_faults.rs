@@ -1,7 +1,7 @@
 //! Single faults in lengths, and in which parts are there.
 
 use super::cut::{At, CutToken, Expected, Piece};
-use super::faults::{any_section, any_subsection, at_header, at_piece};
+use super::faults::{any_section, any_subsection, at_header, at_length, at_piece};
 use crate::kinds::{
     least_length, APPLICATION_DATA, DATES, EXPORT_PARAMETERS, INFORMATION, LONGEST, NAME,
     PROTECTION, PUBLIC_KEY, RULE, SOURCE_RULE, TOKEN_PARAMETERS, TRANSPORT_RULE, TRANSPORT_VARIANT,
@@ -29,7 +29,7 @@ pub fn over_long(cut: &mut CutToken, random: &mut Random) -> Option<Expected> {
     cut.pieces[index].fields[4] = random.bytes(length);
     cut.pieces[index].fields[3] = (length as u16).to_be_bytes().to_vec();
     cut.bring_lengths_in_line();
-    at_header(4)
+    at_header(4, 2)
 }
 
 fn stray_bytes(random: &mut Random, kind: u32) -> Piece {
@@ -122,13 +122,13 @@ pub fn longer_fixed_subsection(cut: &mut CutToken, random: &mut Random) -> Optio
     let kinds = [TRANSPORT_RULE, SOURCE_RULE, PROTECTION, DATES];
     let index = cut.any_of(random, &kinds)?;
     add_bytes(cut, random, index);
-    at_piece(12, index)
+    at_length(12, index, cut)
 }
 
 pub fn longer_section(cut: &mut CutToken, random: &mut Random) -> Option<Expected> {
     let index = cut.any_of(random, &[PUBLIC_KEY, NAME, APPLICATION_DATA])?;
     add_bytes(cut, random, index);
-    at_piece(15, index)
+    at_length(15, index, cut)
 }
 
 pub fn shorter_name(cut: &mut CutToken, random: &mut Random) -> Option<Expected> {
@@ -136,7 +136,7 @@ pub fn shorter_name(cut: &mut CutToken, random: &mut Random) -> Option<Expected>
     let length = random.pick(&[0, 1, 62, 63]);
     cut.pieces[index].fields.get_mut(3)?.truncate(length);
     cut.bring_lengths_in_line();
-    at_piece(6, index)
+    at_length(6, index, cut)
 }
 
 pub fn no_information(cut: &mut CutToken, random: &mut Random) -> Option<Expected> {
@@ -180,14 +180,14 @@ pub fn header_length(cut: &mut CutToken, random: &mut Random) -> Option<Expected
         return None;
     }
     cut.header[2] = (length as u16).to_be_bytes().to_vec();
-    at_header(4)
+    at_header(4, 2)
 }
 
 pub fn section_below_least(cut: &mut CutToken, random: &mut Random) -> Option<Expected> {
     let index = any_section(cut, random)?;
     let length = below_least(random, cut.pieces[index].kind)?;
     cut.pieces[index].set_length(length);
-    at_piece(6, index)
+    at_length(6, index, cut)
 }
 
 /// A length below the least of its kind.
@@ -205,7 +205,7 @@ pub fn section_past_end(cut: &mut CutToken, random: &mut Random) -> Option<Expec
     let left = cut.size() - cut.place_of(index);
     let length = beyond(random, left);
     cut.pieces[index].set_length(length);
-    at_piece(6, index)
+    at_length(6, index, cut)
 }
 
 /// A length above `left`.
@@ -222,7 +222,7 @@ pub fn subsection_below_least(cut: &mut CutToken, random: &mut Random) -> Option
     let index = any_subsection(cut, random)?;
     let length = below_least(random, cut.pieces[index].kind)?;
     cut.pieces[index].set_length(length);
-    at_piece(12, index)
+    at_length(12, index, cut)
 }
 
 pub fn subsection_past_section(cut: &mut CutToken, random: &mut Random) -> Option<Expected> {
@@ -231,7 +231,7 @@ pub fn subsection_past_section(cut: &mut CutToken, random: &mut Random) -> Optio
     let end = cut.place_of(section) + cut.size_of_section(section);
     let length = beyond(random, end - cut.place_of(index));
     cut.pieces[index].set_length(length);
-    at_piece(12, index)
+    at_length(12, index, cut)
 }
 
 /// Gives a field another number than it has.
@@ -256,7 +256,7 @@ pub fn inner_of_section(cut: &mut CutToken, random: &mut Random) -> Option<Expec
         _ => 3,
     };
     another_number(random, cut.pieces[index].fields.get_mut(number)?);
-    at_piece(15, index)
+    at_length(15, index, cut)
 }
 
 /// n of 0001, c of 0003 or z of 0005; or an x or m whose field would pass the
@@ -280,5 +280,5 @@ pub fn inner_of_subsection(cut: &mut CutToken, random: &mut Random) -> Option<Ex
     } else {
         another_number(random, piece.fields.get_mut(last_count)?);
     }
-    at_piece(12, index)
+    at_length(12, index, cut)
 }

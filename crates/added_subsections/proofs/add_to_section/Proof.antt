@@ -1,5 +1,5 @@
 -- The id of the last section, the walk over its subsections, then the longer draft, or the draft alone where it does not read.
-use mathlib.Core.Path.{_≡_, sym, _∙_, subst}
+use mathlib.Core.Path.{_≡_, sym, ap, _∙_, subst}
 use mathlib.Core.Bool.{false}
 use Prim.Native.Nat.{ℕ, _+_}
 use native.Mathlib.Omega.{arith}
@@ -150,7 +150,8 @@ append-subsection-requires c κs =
       last = s .pre .2;
       id = a .id;
       there = id-at d (a .place) (last-inside d (a .place) (s .pre .1) (s .pre .2)) ∙ c .before .before .before .before .before .before .before .if1 .left;
-      fixed = omega (arith, n, f, h);
+      ends = ap (λ (k : ℕ). a .place + k) f;
+      fixed = omega (arith, n, h);
     }
 
 same-length-4 : tie.Need-same-length-4

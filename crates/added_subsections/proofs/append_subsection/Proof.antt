@@ -1,4 +1,4 @@
--- What appending gives; its refusal gives way to the draft's own fault, which after the head of the last section is that of
+-- What appending gives; its refusal gives way to the draft's own fault, which after the own fields of the last section is that of
 -- its subsections.
 use mathlib.Core.Path.{_≡_, sym, _∙_}
 use native.Mathlib.Omega.{arith}
@@ -89,7 +89,7 @@ last-alone-requires c κs =
     let b = bytes-of d (λ i. (c .before .before .before .before .before .before .before .before .before .before .before .before .before .before .before .before .slice-known .given i) .fits) in
     let v = bytes-of w (λ i. (c .before .before .before .before .before .before .before .before .before .before .before .before .before .before .before .slice-known2 .given i) .fits) in
     let a = sym (c .before .before .before .before .a .given .1) ∙ p .append .ensures .0 in
-    last-asked d w (s .args .place) b v (s .pre) a (c .before .before .before .before .before .before .before .before .before .before .before .before .before .two .ensures .0) (p .append .ensures .1)
+    last-asked d w (s .args .place) (s .args .first) b v (s .pre) a (c .before .before .before .before .before .before .before .before .before .before .before .before .before .two .ensures .0) (p .append .ensures .1)
 
 enum-known-own : tie.Need-enum-known-own
 enum-known-own c = search needs
@@ -115,7 +115,7 @@ returns-3 c =
     let b = bytes-of d (λ i. (c .before .before .before .before .before .before .before .before .before .before .before .before .before .before .before .before .before .before .before .before .slice-known .given i) .fits) in
     let v = bytes-of w (λ i. (c .before .before .before .before .before .before .before .before .before .before .before .before .before .before .before .before .before .before .before .slice-known2 .given i) .fits) in
     let a = sym (c .before .before .before .before .before .before .before .before .a .given .1) ∙ p .append .ensures .0 in
-    let l = left d w (s .args .place) b v (s .pre) a (c .before .before .before .before .before .before .if1 .left) (omega (arith, c .before .before .before .before .before .if2 .left)) (c .before .before .before .before .before .before .before .before .before .before .before .before .before .before .before .before .before .two .ensures .0) (p .append .ensures .1) in
+    let l = left d w (s .args .place) (s .args .first) b v (s .pre) a (c .before .before .before .before .before .before .if1 .left) (omega (arith, c .before .before .before .before .before .if2 .left)) (c .before .before .before .before .before .before .before .before .before .before .before .before .before .before .before .before .before .two .ensures .0) (p .append .ensures .1) in
     left-refused d (s .args .place) w _ (l .0) (l .1) a (p .append .ensures .1) (sym (c .before .own .given .1) ∙ c .before .before .before .last-alone .ensures)
 
 same-length-7 : tie.Need-same-length-7
@@ -133,7 +133,7 @@ returns-4 c =
     let b = bytes-of d (λ i. (c .before .before .before .before .before .before .before .before .before .before .before .before .before .before .before .before .before .before .before .before .slice-known .given i) .fits) in
     let v = bytes-of w (λ i. (c .before .before .before .before .before .before .before .before .before .before .before .before .before .before .before .before .before .before .before .slice-known2 .given i) .fits) in
     let a = sym (c .before .before .before .before .before .before .before .before .a .given .1) ∙ p .append .ensures .0 in
-    let l = left d w (s .args .place) b v (s .pre) a (c .before .before .before .before .before .before .if1 .left) (omega (arith, c .before .before .before .before .before .if2 .left)) (c .before .before .before .before .before .before .before .before .before .before .before .before .before .before .before .before .before .two .ensures .0) (p .append .ensures .1) in
+    let l = left d w (s .args .place) (s .args .first) b v (s .pre) a (c .before .before .before .before .before .before .if1 .left) (omega (arith, c .before .before .before .before .before .if2 .left)) (c .before .before .before .before .before .before .before .before .before .before .before .before .before .before .before .before .before .two .ensures .0) (p .append .ensures .1) in
     own-late d (s .args .place) w (left-found d _ (l .0) (l .1) (sym (c .before .own2 .given .1) ∙ c .before .before .before .last-alone .ensures)) a (p .append .ensures .1)
 
 same-length-9 : tie.Need-same-length-9

@@ -6,14 +6,17 @@ use Prim.Native.Nat.{ℕ, _+_, _≤_}
 use native.Mathlib.Omega.{arith}
 use lib.Dec.{ltb}
 use lib.ListN.{length, length-append}
-use Rattle.format.specs.Bytes.{Bytes, bigEndian}
+use Rattle.format.specs.Bytes.{Bytes, bigEndian, number, bytesAt}
 use Rattle.format.specs.Layout.{fits, write}
 use Rattle.format.specs.Parts.{publicKey, layout}
 use Rattle.format.specs.Rules.{checks}
+use Rattle.format.specs.Reading.{Test, located, partSlots}
+use Rattle.format.proofs.Tests.{located-kept}
+use Rattle.sections.specs.Refusals.{firstRefusal}
 use Rattle.format.specs.Writer.{publicKeyFields}
 use Rattle.format.proofs.Numbers.{number-bigEndian}
 use Rattle.format.proofs.Changes.{restate}
-use Rattle.sections.proofs.Heads.{all-hold}
+use Rattle.sections.proofs.Laws.{all-hold}
 use Rattle.reading.proofs.Filled.{bytes-of}
 use Rattle.drafts.proofs.Additions.{unfit-added}
 use Rattle.drafts.proofs.Calls.{header-stands}
@@ -50,6 +53,26 @@ ready d bits x y flags h k b = record {
   form = refl;
   long = key-length bits x y flags;
 }
+
+-- what its counts state, in the bytes of the section
+key-states : (bits : ℕ) (x y : List ℕ) (flags : ℕ) → length x ≤ 65535 → length y ≤ 65535
+    → let w = write (16 + length x + length y) (layout publicKey) (publicKeyFields bits x y flags) in
+    (number (bytesAt w 6 2) ≡ length x) × (number (bytesAt w 10 2) ≡ length y)
+unfolding bytesAt
+key-states bits x y flags h k = (number-bigEndian 2 (length x) (omega arith), number-bigEndian 2 (length y) (omega arith))
+
+-- the rules that `key_fields` tested
+abbrev Rules : ℕ → List ℕ → List ℕ → ℕ → List Test
+Rules bits x y flags =
+    located (partSlots publicKey (write (16 + length x + length y) (layout publicKey) (publicKeyFields bits x y flags))) (checks false publicKey (publicKeyFields bits x y flags))
+
+judged : (c : tie.After-key-fields) → let a = c .before .before .before .before .before .before .before .before .before .before .before .args in c .key-fields .result ≡ firstRefusal (Rules (a .modulus-bits) (a .exponent .now) (a .modulus .now) (a .flags))
+judged c =
+    let a = c .before .before .before .before .before .before .before .before .before .before .before .args in
+    let h₁ = c .before .before .before .before .before .before .before .if1 .left in
+    let h₂ = c .before .before .before .before .before .before .if2 .left in
+    let s = key-states (a .modulus-bits) (a .exponent .now) (a .modulus .now) (a .flags) (omega arith) (omega arith) in
+    c .key-fields .ensures _ (bigEndian 2 (a .modulus-bits)) (bigEndian 4 (a .flags)) (s .0) (s .1) (sym (number-bigEndian 2 (a .modulus-bits) (omega arith))) (sym (number-bigEndian 4 (a .flags) (omega arith)))
 
 not-fitting-requires : tie.Need-not-fitting-requires
 not-fitting-requires c κs = search needs
@@ -98,20 +121,26 @@ enum-known-a-2 c = search needs
 key-fields-requires : tie.Need-key-fields-requires
 key-fields-requires c κs = search needs
 
+cast-refused : tie.Need-cast-refused
+cast-refused c = search needs
+
 same-length-3 : tie.Need-same-length-3
 same-length-3 c = search needs
 
+refused-requires : tie.Need-refused-requires
+refused-requires c κs =
+    let w = placed _ 0x11 _ (sym (c .before .before .before .a2 .given .1) ∙ c .before .before .before .before .before .place-for .ensures) .1 in
+    omega (arith, w .ends, w .most)
+
 returns-3 : tie.Need-returns-3
 returns-3 c =
-    let a = c .before .before .before .before .before .before .before .before .before .before .before .before .args in
+    let a = c .before .before .before .before .before .before .before .before .before .before .before .before .before .args in
     let d = a .draft .now in
-    let e = a .exponent .now in
-    let m = a .modulus .now in
-    let h₁ = c .before .before .before .before .before .before .before .before .if1 .left in
-    let h₂ = c .before .before .before .before .before .before .before .if2 .left in
-    let r = ready d (a .modulus-bits) e m (a .flags) (omega arith) (omega arith) (bytes-of d (λ i. (c .before .before .before .before .before .before .before .before .before .before .before .slice-known .given i) .fits)) in
-    let rules = c .before .key-fields .ensures (bigEndian 2 (a .modulus-bits)) (bigEndian 4 (a .flags)) (sym (number-bigEndian 2 (a .modulus-bits) (omega arith))) (sym (number-bigEndian 4 (a .flags) (omega arith))) in
-    rule-broken r (sym (c .before .before .before .a2 .given .1) ∙ c .before .before .before .before .before .place-for .ensures) rules (c .if3 .taken)
+    let h₁ = c .before .before .before .before .before .before .before .before .before .if1 .left in
+    let h₂ = c .before .before .before .before .before .before .before .before .if2 .left in
+    let r = ready d (a .modulus-bits) (a .exponent .now) (a .modulus .now) (a .flags) (omega arith) (omega arith) (bytes-of d (λ i. (c .before .before .before .before .before .before .before .before .before .before .before .before .slice-known .given i) .fits)) in
+    let s = rule-broken r (sym (c .before .before .before .before .a2 .given .1) ∙ c .before .before .before .before .before .before .place-for .ensures) (judged (c .before .before)) (c .before .if3 .taken) in
+    (c .refused .ensures ∙ s .0, s .1)
 
 cast-put-key : tie.Need-cast-put-key
 cast-put-key c = search needs
@@ -144,8 +173,8 @@ put-two-requires c κs =
     let l = c .before .before .draft .given in
     (omega arith, omega arith)
 
-cast-t31 : tie.Need-cast-t31
-cast-t31 c =
+cast-t32 : tie.Need-cast-t32
+cast-t32 c =
     let a = c .before .before .before .before .before .before .before .before .before .before .before .before .before .before .before .before .before .before .before .before .args in
     let d = a .draft .now in
     let e = a .exponent .now in
@@ -184,10 +213,9 @@ returns-5 c =
     let h₁ = c .before .before .before .before .before .before .before .before .before .before .before .before .before .before .before .before .if1 .left in
     let h₂ = c .before .before .before .before .before .before .before .before .before .before .before .before .before .before .before .if2 .left in
     let r = ready d (a .modulus-bits) e m (a .flags) (omega arith) (omega arith) (bytes-of d (λ i. (c .before .before .before .before .before .before .before .before .before .before .before .before .before .before .before .before .before .before .before .slice-known .given i) .fits)) in
-    let rules = c .before .before .before .before .before .before .before .before .before .key-fields .ensures (bigEndian 2 (a .modulus-bits)) (bigEndian 4 (a .flags)) (sym (number-bigEndian 2 (a .modulus-bits) (omega arith))) (sym (number-bigEndian 4 (a .flags) (omega arith))) in
     let k = c .before .before .before .before .before .before .put-key .ensures .place in
     let long = key-length (a .modulus-bits) e m (a .flags) in
-    put-after r (sym (c .before .before .before .before .before .before .before .before .before .before .before .a2 .given .1) ∙ c .before .before .before .before .before .before .before .before .before .before .before .before .before .place-for .ensures) (all-hold (checks false publicKey (publicKeyFields (a .modulus-bits) e m (a .flags))) refl (sym (c .before .before .before .before .before .before .before .before .if3 .left) ∙ rules)) (omega arith)
+    put-after r (sym (c .before .before .before .before .before .before .before .before .before .before .before .a2 .given .1) ∙ c .before .before .before .before .before .before .before .before .before .before .before .before .before .place-for .ensures) (located-kept (partSlots publicKey (write (16 + length e + length m) (layout publicKey) (publicKeyFields (a .modulus-bits) e m (a .flags)))) (checks false publicKey (publicKeyFields (a .modulus-bits) e m (a .flags))) (all-hold (Rules (a .modulus-bits) e m (a .flags)) refl (sym (c .before .before .before .before .before .before .before .before .if3 .left) ∙ judged (c .before .before .before .before .before .before .before .before .before)))) (omega arith)
     (length-stored 0 (c .before .before .before .before .before .before .put-key .result) (c .before .before .put-two .ensures) ∙ ap (restate 0 (c .before .before .before .before .before .before .put-key .result)) (c .before .before .before .before .before .before .put-key .ensures .bytes))
 
 pub public-key-spec : {M : Type 1} → statement M
@@ -206,12 +234,14 @@ public-key-spec =
     enum-known-a
     enum-known-a-2
     key-fields-requires
+    cast-refused
+    refused-requires
     same-length-3
     returns-3
     cast-put-key
     put-key-requires
     put-two-requires
-    cast-t31
+    cast-t32
     same-length-4
     returns-4
     same-length-5

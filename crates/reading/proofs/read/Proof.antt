@@ -18,7 +18,7 @@ header-requires c κs = search needs
 returns : tie.Need-returns
 unfolding answer
 returns c =
-    header-stops true (c .before .before .before .args .token .now) (c .before .header .ensures) (c .if1 .taken)
+    c .refused .ensures ∙ header-stops true (c .before .before .before .before .args .token .now) (c .before .before .header .ensures) (c .before .if1 .taken)
 
 -- src/lib.rt:23:24
 shared-slice-read-sections-of : tie.Need-shared-slice-read-sections-of
@@ -47,6 +47,7 @@ read-spec =
     tie.close
     (tie.spec
     header-requires
+    (λ c κs. search needs)
     returns
     shared-slice-read-sections-of
     sections-of-requires

@@ -1,84 +1,52 @@
-use Rattle.sections.specs.Refusals.{headChecks}
-use Rattle.format.specs.Bytes.{number, bytesAt}
-use lib.ListN.{length, drop, length-drop}
-use mathlib.Core.Bool.{not}
-use Prim.Native.Nat.{_+_}
-use Rattle.sections.proofs.Laws.{stop, pass, none, zero-yes, zero-not, number-at, at-least, below, byte-number, both-yes, first-not, second-not}
-use borrow.Author.Tests.{le-leb, lt-leb}
-use native.Mathlib.Omega.{arith}
+-- The first refusal of a section's head is that of its tests.
 use mathlib.Core.Path.{ap}
+use mathlib.Core.Bool.{not}
+use mathlib.Core.List.{List}
+use Prim.Native.Nat.{ℕ}
+use native.Mathlib.Omega.{arith}
+use lib.ListN.{length, drop, length-drop}
 use borrow.Author.Needs.{needs}
+use Rattle.format.specs.Reading.{Test}
+use Rattle.sections.specs.Refusals.{headChecks}
+use Rattle.sections.proofs.Laws.{Left, all-left, passed, failed, none-left, zero-yes, zero-not, at-least, below, at-most, above, byte-at, both-yes, first-not, second-not}
 use Rattle.sections.proofs.section_head.Statement.{statement}
 use Rattle.sections.proofs.section_head.Tie as tie
 
-add-if1 : tie.Need-add-if1
-add-if1 c = search needs
+abbrev Tests : tie.Start → List Test
+Tests c = headChecks (c .args .least) (c .args .seen) (drop (c .args .p) (c .args .s .now))
 
-shared-slice-read-if1 : tie.Need-shared-slice-read-if1
-shared-slice-read-if1 c = search needs
+-- the first k tests have passed
+abbrev Past : ℕ → tie.Start → Type 0
+Past k c = Left (Tests c) (drop k (Tests c))
 
-returns : tie.Need-returns
+past-1 : (c : tie.Else1) → Past 1 (c .before .before .before)
 unfolding headChecks
-returns c =
-    let s = c .before .before .before .args .s .now in
-    let p = c .before .before .before .args .p in
-    stop _ _ (zero-not s p 1 1 (byte-number s (p + 1) (omega arith)) (c .if1 .taken))
+past-1 c = passed (all-left _) (zero-yes _ _ 1 1 (byte-at _ _ 4 1 (c .before .before .before .pre .0) (omega arith)) (c .if1 .left))
 
-add-two : tie.Need-add-two
-add-two c = search needs
-
-two-requires : tie.Need-two-requires
-two-requires c κs = search needs
-
-returns-2 : tie.Need-returns-2
+past-2 : (c : tie.Else3) → Past 2 (c .before .before .before .before .before .before)
 unfolding headChecks
-returns-2 c =
-    let s = c .before .before .before .before .before .args .s .now in
-    let p = c .before .before .before .before .before .args .p in
-    pass _ _ (zero-yes s p 1 1 (byte-number s (p + 1) (omega arith)) (c .before .before .if1 .left))
-    (stop _ _ (first-not _ (below s p 2 2 (c .before .two .ensures .0) (c .before .before .before .before .before .args .least) (c .if2 .taken))))
-
-sub-if3 : tie.Need-sub-if3
-sub-if3 c = search needs
-
-returns-3 : tie.Need-returns-3
-unfolding headChecks
-returns-3 c =
+past-2 c =
     let s = c .before .before .before .before .before .before .args .s .now in
     let p = c .before .before .before .before .before .before .args .p in
-    pass _ _ (zero-yes s p 1 1 (byte-number s (p + 1) (omega arith)) (c .before .before .before .if1 .left))
-    (stop _ _ (second-not (at-least s p 2 2 (c .before .before .two .ensures .0) (c .before .before .before .before .before .before .args .least) (c .before .if2 .left)) (lt-leb (number (bytesAt (drop p s) 2 2)) (length (drop p s)) (omega (arith, (length-drop p s), number-at s p 2 2 (c .before .before .two .ensures .0))))))
-
-returns-4 : tie.Need-returns-4
-unfolding headChecks
-returns-4 c =
-    let s = c .before .before .before .before .before .before .before .args .s .now in
-    let p = c .before .before .before .before .before .before .before .args .p in
-    pass _ _ (zero-yes s p 1 1 (byte-number s (p + 1) (omega arith)) (c .before .before .before .before .if1 .left))
-    (pass _ _ (both-yes (at-least s p 2 2 (c .before .before .before .two .ensures .0) (c .before .before .before .before .before .before .before .args .least) (c .before .before .if2 .left)) (le-leb (number (bytesAt (drop p s) 2 2)) (length (drop p s)) (omega (arith, (length-drop p s), number-at s p 2 2 (c .before .before .before .two .ensures .0)))))
-    (stop _ _ (ap not (c .if4 .taken))))
-
-returns-5 : tie.Need-returns-5
-unfolding headChecks
-returns-5 c =
-    let s = c .before .before .before .before .before .before .before .args .s .now in
-    let p = c .before .before .before .before .before .before .before .args .p in
-    pass _ _ (zero-yes s p 1 1 (byte-number s (p + 1) (omega arith)) (c .before .before .before .before .if1 .left))
-    (pass _ _ (both-yes (at-least s p 2 2 (c .before .before .before .two .ensures .0) (c .before .before .before .before .before .before .before .args .least) (c .before .before .if2 .left)) (le-leb (number (bytesAt (drop p s) 2 2)) (length (drop p s)) (omega (arith, (length-drop p s), number-at s p 2 2 (c .before .before .before .two .ensures .0)))))
-    (pass _ _ (ap not (c .if4 .left))
-    (none)))
+    let l = c .before .before .two .ensures .0 in
+    passed (past-1 (c .before .before .before)) (both-yes (at-least s p 2 2 l _ (c .before .if2 .left)) (at-most s p 2 2 l (length (drop p s)) (omega (arith, length-drop p s))))
 
 pub section-head-spec : {M : Type 1} → statement M
+unfolding headChecks
 section-head-spec =
     tie.close
     (tie.spec
-    add-if1
-    shared-slice-read-if1
-    returns
-    add-two
-    two-requires
-    returns-2
-    sub-if3
-    returns-3
-    returns-4
-    returns-5)
+    (λ c. search needs)
+    (λ c. search needs)
+    (λ c. failed (all-left (Tests (c .before .before .before))) (zero-not _ _ 1 1 (byte-at _ _ 4 1 (c .before .before .before .pre .0) (omega arith)) (c .if1 .taken)))
+    (λ c. search needs)
+    (λ c κs. search needs)
+    (λ c. failed (past-1 (c .before .before)) (first-not _ (below _ _ 2 2 (c .before .two .ensures .0) _ (c .if2 .taken))))
+    (λ c. search needs)
+    (λ c.
+    let s = c .before .before .before .before .before .before .args .s .now in
+    let p = c .before .before .before .before .before .before .args .p in
+    let l = c .before .before .two .ensures .0 in
+    failed (past-1 (c .before .before .before)) (second-not (at-least s p 2 2 l _ (c .before .if2 .left)) (above s p 2 2 l (length (drop p s)) (omega (arith, length-drop p s)))))
+    (λ c. failed (past-2 (c .before)) (ap not (c .if4 .taken)))
+    (λ c. none-left (passed (past-2 (c .before)) (ap not (c .if4 .left)))))

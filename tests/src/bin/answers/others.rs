@@ -2,7 +2,7 @@
 //! examples.
 
 use crate::cases::{hex, part_words, row_word, Cases};
-use crate::forms::{date_exists, is_label_template, is_rule_id};
+use crate::forms::{date_exists, first_wrong, is_label_template, is_rule_id};
 use crate::kinds;
 use crate::reader::{read, Answer, Row};
 use crate::samples::{
@@ -222,15 +222,23 @@ fn dates_in_tokens(cases: &mut Cases) {
 /// The characters on each side of those that a Rule ID or a label allows.
 const SIDES: &[u8] = b"\x00\x1F !\"#$%)*+,-./0189:;?@ABYZ[\\]^_`abyz{|\x7F\x80\xC1\xFF";
 
+/// Whether the field has its form, and the first byte at which none can go on,
+/// its length where it has.
+fn form(cases: &mut Cases, sort: &str, bytes: &[u8], is_form: fn(&[u8]) -> bool) {
+    let place = first_wrong(bytes, is_form).unwrap_or(bytes.len());
+    let says = u8::from(is_form(bytes));
+    cases.ask(
+        &format!("{sort} {}", hex(bytes)),
+        &format!("{says} {place}"),
+    );
+}
+
 fn rule_id(cases: &mut Cases, bytes: &[u8]) {
-    let says = u8::from(is_rule_id(bytes));
-    cases.ask(&format!("ruleid {}", hex(bytes)), &says.to_string());
+    form(cases, "ruleid", bytes, is_rule_id);
 }
 
 fn label(cases: &mut Cases, text: &[u8]) {
-    let bytes = spaced(text, 64);
-    let says = u8::from(is_label_template(&bytes));
-    cases.ask(&format!("label {}", hex(&bytes)), &says.to_string());
+    form(cases, "label", &spaced(text, 64), is_label_template);
 }
 
 fn characters(cases: &mut Cases) {
@@ -254,6 +262,8 @@ fn characters(cases: &mut Cases) {
         b"A B",
         b" A",
         b"A      B",
+        b"A B C",
+        b"A  -_",
     ] {
         rule_id(cases, &spaced(text, 8));
     }
@@ -281,8 +291,12 @@ fn labels(cases: &mut Cases) {
         b"A* B",
         b"A B*",
         b"* *",
+        b"* A",
         b"A1",
         b"A1*",
+        b"A* *",
+        b"*A B*",
+        b"AB-*",
     ] {
         label(cases, text);
     }

@@ -15,7 +15,7 @@ use Rattle.fields.proofs.characters.after_star.Tie as tie
 returns : tie.Need-returns
 returns c =
     let a = c .before .before .args in
-    (star-first (a .first) (bytesAt (a .s .now) (a .p) (a .e - a .p)) (c .if1 .taken), search needs)
+    (star-first (a .first) (a .p) (bytesAt (a .s .now) (a .p) (a .e - a .p)) (c .if1 .taken), search needs)
 
 returns-2 : tie.Need-returns-2
 returns-2 c =

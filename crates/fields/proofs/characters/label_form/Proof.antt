@@ -1,16 +1,11 @@
 -- A label template, from its first character, the run after it, the star and the spaces. Assumes nothing.
 use mathlib.Core.Path.{sym, ap, _∙_}
-use native.Mathlib.Omega.{arith}
-use lib.Dec.{eqb}
 use lib.ListN.{getD}
-use Prim.Native.Nat.{_+_}
-use Rattle.format.specs.Bytes.{every}
+use Prim.Native.Nat.{_+_, _-_}
+use Rattle.format.specs.Bytes.{every, bytesAt}
 use Rattle.format.specs.Forms.{space}
-use Rattle.fields.specs.Classes.{labelClass, digitClass, starClass}
-use Rattle.fields.specs.Templates.{afterStar}
-use Rattle.fields.proofs.Classes.{plain, plain-class}
-use Rattle.fields.proofs.Runs.{run-left}
-use Rattle.fields.proofs.Templates.{label-told}
+use Rattle.fields.proofs.Runs.{left-at}
+use Rattle.fields.proofs.Templates.{body, label-told, label-end}
 use borrow.Author.Tests.{not-true, not-false}
 use borrow.Author.Needs.{needs}
 use Rattle.fields.proofs.characters.label_form.Statement.{statement}
@@ -34,7 +29,7 @@ returns c =
     let k = c .before .before .character .ensures in
     let f = c .before .may-be-first in
     let b = getD (a .args .s .now) (a .args .i) 0 in
-    sym (label-told (a .args .s .now) (a .args .i) k (a .pre .0) ∙ rw (← f .ensures b k, not-true (f .result) (c .if1 .taken)))
+    sym (label-told (a .args .s .now) (a .args .i) (a .pre .0) ∙ rw (← f .ensures b k, not-true (f .result) (c .if1 .taken)))
 
 add-run-end : tie.Need-add-run-end
 add-run-end c = search needs
@@ -53,15 +48,15 @@ returns-2 c =
     let a = c .before .before .before .before .before .before .before .before in
     let s = a .args .s .now in
     let i = a .args .i in
-    let k = c .before .before .before .before .before .character in
+    let k = c .before .before .before .before .before .character .ensures in
     let f = c .before .before .before .before .may-be-first in
-    let r = c .before .before .run-end .ensures in
+    let run = c .before .before .run-end .ensures in
+    let q = c .before .after-star .ensures in
     let b = getD s i 0 in
+    let bs = bytesAt s i (i + 64 - i) in
     c .only-spaces .ensures
-    ∙ ap (every space) (c .before .after-star .ensures .0
-    ∙ ap (afterStar (eqb (k .result) starClass))
-    (sym (run-left plain labelClass digitClass plain-class s (i + 1) (i + 64) (omega (arith, a .pre .0)) (a .pre .0) (r .0) (r .1))))
-    ∙ sym (label-told s i (k .ensures) (a .pre .0) ∙ rw (← f .ensures b (k .ensures), not-false (f .result) (c .before .before .before .if1 .left)))
+    ∙ ap (every space) (sym (left-at s i (i + 64) (body bs) (label-end s i (a .pre .0) k (run .0) (run .1) (q .0)) (q .1) (a .pre .0)))
+    ∙ sym (label-told s i (a .pre .0) ∙ rw (← f .ensures b k, not-false (f .result) (c .before .before .before .if1 .left)))
 
 pub label-form-spec : {M : Type 1} → statement M
 label-form-spec =

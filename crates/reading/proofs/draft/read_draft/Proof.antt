@@ -18,7 +18,7 @@ header-requires c κs = search needs
 
 -- src/draft.rt:16:9
 returns : tie.Need-returns
-returns c = header-stops false _ (c .before .header .ensures) (c .if1 .taken)
+returns c = c .refused .ensures ∙ header-stops false _ (c .before .before .header .ensures) (c .before .if1 .taken)
 
 -- src/draft.rt:18:9
 two-requires : tie.Need-two-requires
@@ -64,6 +64,7 @@ read-draft-spec =
     tie.close
     (tie.spec
     header-requires
+    (λ c κs. search needs)
     returns
     two-requires
     slice-aggregate-sections-of

@@ -1,216 +1,112 @@
 -- The first refusal of the fields of a 0003 is that of their tests.
-use mathlib.Core.Path.{sym, _∙_, ap}
-use Prim.Native.Nat.{ℕ, _+_}
+use mathlib.Core.Path.{_≡_, sym, _∙_, ap, ap₂}
+use mathlib.Core.Bool.{Bool}
+use mathlib.Core.List.{List}
+use Prim.Native.Nat.{ℕ, _+_, _<_, _≤_}
 use native.Mathlib.Omega.{arith}
-use lib.ListN.{drop}
+use lib.Dec.{leb}
+use lib.ListN.{length, getD, drop}
 use borrow.Author.Tests.{le-leb, lt-leb, not-true, not-false}
 use borrow.Author.Needs.{needs}
 use Rattle.format.specs.Forms.{keyLength}
 use Rattle.format.specs.Bytes.{number, bytesAt}
-use Rattle.sections.proofs.Laws.{stop, pass, none, zero-yes, zero-not, number-at, byte-number}
+use Rattle.format.specs.Parts.{exportParameters}
+use Rattle.format.specs.Rules.{variantLength, controlLength}
+use Rattle.format.specs.Reading.{fieldChecks}
+use Rattle.sections.specs.Refusals.{coded}
+use Rattle.sections.proofs.Laws.{Left, all-left, passed, failed, none-left, zero-yes, zero-not, number-at, byte-at}
 use Rattle.rule_subsections.proofs.Laws.{length-behind}
 use Rattle.rule_subsections.proofs.parameters.export_fields.Statement.{statement}
 use Rattle.rule_subsections.proofs.parameters.export_fields.Tie as tie
 
-add-two : tie.Need-add-two
-add-two c = search needs
+-- the first k tests of the fields have passed
+abbrev Past : ℕ → tie.Start → Type 0
+Past k c = (y : Bool) → let cs = fieldChecks y exportParameters (drop (c .args .q) (c .args .s .now)) in Left cs (drop k cs)
 
-two-requires : tie.Need-two-requires
-two-requires c κs = search needs
+-- the w bytes at offset o of the subsection, and what one of its first twelve states
+abbrev At : tie.Start → ℕ → ℕ → List ℕ
+At c o w = bytesAt (drop (c .args .q) (c .args .s .now)) o w
 
-returns : tie.Need-returns
-returns c =
-    λ y.
-    let s = c .before .before .before .args .s .now in
-    let q = c .before .before .before .args .q in
-    let x = c .before .before .before .args .x in
-    let k = number (bytesAt (drop q s) 10 1) in
-    let xe = c .before .before .before .pre .3 in
-    let ce = c .before .before .before .pre .4 ∙ ap (λ (i : ℕ). number (bytesAt (drop q s) (11 + i) 1)) xe in
-    let j = number (bytesAt (drop q s) (11 + k) 1) in
-    stop _ _ (zero-not s q 5 2 (c .before .two .ensures .0) (c .if1 .taken))
+room : (c : tie.Start) → c .args .q + 12 ≤ length (c .args .s .now)
+room c = omega (arith, c .pre)
 
-add-if2 : tie.Need-add-if2
-add-if2 c = search needs
+byte : (c : tie.Start) (o : ℕ) → o < 12 → getD (c .args .s .now) (c .args .q + o) 0 ≡ number (At c o 1)
+byte c o h = number-at (c .args .s .now) (c .args .q) o 1 (byte-at (c .args .s .now) (c .args .q) 12 o (room c) h)
 
-shared-slice-read-if2 : tie.Need-shared-slice-read-if2
-shared-slice-read-if2 c = search needs
+-- the lengths of the variant and of the control vector, as they are stated
+abbrev X : tie.Start → ℕ
+X c = number (At c 10 1)
 
-returns-2 : tie.Need-returns-2
-returns-2 c =
-    λ y.
-    let s = c .before .before .before .before .before .args .s .now in
-    let q = c .before .before .before .before .before .args .q in
-    let x = c .before .before .before .before .before .args .x in
-    let k = number (bytesAt (drop q s) 10 1) in
-    let xe = c .before .before .before .before .before .pre .3 in
-    let ce = c .before .before .before .before .before .pre .4 ∙ ap (λ (i : ℕ). number (bytesAt (drop q s) (11 + i) 1)) xe in
-    let b7 = byte-number s (q + 7) (omega arith) in
-    let j = number (bytesAt (drop q s) (11 + k) 1) in
-    pass _ _ (zero-yes s q 5 2 (c .before .before .before .two .ensures .0) (c .before .before .if1 .left))
-    (stop _ _ (zero-not s q 7 1 b7 (c .if2 .taken)))
+abbrev C : tie.Start → ℕ
+C c = number (At c (11 + X c) 1)
 
-add-minimum : tie.Need-add-minimum
-add-minimum c = search needs
+vector : (c : tie.Start) → c .args .c ≡ C c
+vector c = c .pre .4 ∙ ap (λ (i : ℕ). number (At c (11 + i) 1)) (c .pre .3)
 
-shared-slice-read-minimum : tie.Need-shared-slice-read-minimum
-shared-slice-read-minimum c = search needs
+past-1 : (c : tie.Else1) → Past 1 (c .before .before .before)
+past-1 c y = passed (all-left _) (zero-yes _ _ 5 2 (c .before .two .ensures .0) (c .if1 .left))
 
-add-maximum : tie.Need-add-maximum
-add-maximum c = search needs
+past-2 : (c : tie.Else2) → Past 2 (c .before .before .before .before .before)
+past-2 c y = passed (past-1 (c .before .before) y) (zero-yes _ _ 7 1 (byte-at _ _ 12 7 (room (c .before .before .before .before .before)) (omega arith)) (c .if2 .left))
 
-shared-slice-read-maximum : tie.Need-shared-slice-read-maximum
-shared-slice-read-maximum c = search needs
+-- the minimum and the maximum, at offsets 8 and 9
+key : {b : Bool} (c : tie.Start) (o : ℕ) → o < 12 → b ≡ keyLength (getD (c .args .s .now) (c .args .q + o) 0) → keyLength (number (At c o 1)) ≡ b
+key c o h e = sym (e ∙ ap keyLength (byte c o h))
 
-key-length-requires : tie.Need-key-length-requires
-key-length-requires c κs = search needs
+past-3 : (c : tie.Else3) → Past 3 (c .before .before .before .before .before .before .before .before .before)
+past-3 c y = passed (past-2 (c .before .before .before .before) y) (key (c .before .before .before .before .before .before .before .before .before) 8 (omega arith) (c .before .key-length .ensures) ∙ not-false _ (c .if3 .left))
 
-returns-3 : tie.Need-returns-3
-returns-3 c =
-    λ y.
-    let s = c .before .before .before .before .before .before .before .before .before .args .s .now in
-    let q = c .before .before .before .before .before .before .before .before .before .args .q in
-    let x = c .before .before .before .before .before .before .before .before .before .args .x in
-    let k = number (bytesAt (drop q s) 10 1) in
-    let xe = c .before .before .before .before .before .before .before .before .before .pre .3 in
-    let ce = c .before .before .before .before .before .before .before .before .before .pre .4 ∙ ap (λ (i : ℕ). number (bytesAt (drop q s) (11 + i) 1)) xe in
-    let b7 = byte-number s (q + 7) (omega arith) in
-    let b8 = byte-number s (q + 8) (omega arith) in
-    let j = number (bytesAt (drop q s) (11 + k) 1) in
-    pass _ _ (zero-yes s q 5 2 (c .before .before .before .before .before .before .before .two .ensures .0) (c .before .before .before .before .before .before .if1 .left))
-    (pass _ _ (zero-yes s q 7 1 b7 (c .before .before .before .before .if2 .left))
-    (stop _ _ (sym (c .before .key-length .ensures ∙ ap keyLength (number-at s q 8 1 b8)) ∙ not-true _ (c .if3 .taken))))
+past-4 : (c : tie.Else4) → Past 4 (c .before .before .before .before .before .before .before .before .before .before .before)
+past-4 c y = passed (past-3 (c .before .before) y) (key (c .before .before .before .before .before .before .before .before .before .before .before) 9 (omega arith) (c .before .key-length2 .ensures) ∙ not-false _ (c .if4 .left))
 
-key-length-requires-2 : tie.Need-key-length-requires-2
-key-length-requires-2 c κs = search needs
+order : (c : tie.Start) → leb (number (At c 8 1)) (number (At c 9 1)) ≡ leb (getD (c .args .s .now) (c .args .q + 8) 0) (getD (c .args .s .now) (c .args .q + 9) 0)
+order c = sym (ap₂ leb (byte c 8 (omega arith)) (byte c 9 (omega arith)))
 
-returns-4 : tie.Need-returns-4
-returns-4 c =
-    λ y.
-    let s = c .before .before .before .before .before .before .before .before .before .before .before .args .s .now in
-    let q = c .before .before .before .before .before .before .before .before .before .before .before .args .q in
-    let x = c .before .before .before .before .before .before .before .before .before .before .before .args .x in
-    let k = number (bytesAt (drop q s) 10 1) in
-    let xe = c .before .before .before .before .before .before .before .before .before .before .before .pre .3 in
-    let ce = c .before .before .before .before .before .before .before .before .before .before .before .pre .4 ∙ ap (λ (i : ℕ). number (bytesAt (drop q s) (11 + i) 1)) xe in
-    let b7 = byte-number s (q + 7) (omega arith) in
-    let b8 = byte-number s (q + 8) (omega arith) in
-    let b9 = byte-number s (q + 9) (omega arith) in
-    let j = number (bytesAt (drop q s) (11 + k) 1) in
-    pass _ _ (zero-yes s q 5 2 (c .before .before .before .before .before .before .before .before .before .two .ensures .0) (c .before .before .before .before .before .before .before .before .if1 .left))
-    (pass _ _ (zero-yes s q 7 1 b7 (c .before .before .before .before .before .before .if2 .left))
-    (pass _ _ (sym (c .before .before .before .key-length .ensures ∙ ap keyLength (number-at s q 8 1 b8)) ∙ not-false _ (c .before .before .if3 .left))
-    (stop _ _ (sym (c .before .key-length2 .ensures ∙ ap keyLength (number-at s q 9 1 b9)) ∙ not-true _ (c .if4 .taken)))))
+past-5 : (c : tie.Else5) → Past 5 (c .before .before .before .before .before .before .before .before .before .before .before .before)
+past-5 c y = passed (past-4 (c .before) y) (order (c .before .before .before .before .before .before .before .before .before .before .before .before) ∙ le-leb _ _ (c .if5 .left))
 
-returns-5 : tie.Need-returns-5
-returns-5 c =
-    λ y.
-    let s = c .before .before .before .before .before .before .before .before .before .before .before .before .args .s .now in
-    let q = c .before .before .before .before .before .before .before .before .before .before .before .before .args .q in
-    let x = c .before .before .before .before .before .before .before .before .before .before .before .before .args .x in
-    let k = number (bytesAt (drop q s) 10 1) in
-    let xe = c .before .before .before .before .before .before .before .before .before .before .before .before .pre .3 in
-    let ce = c .before .before .before .before .before .before .before .before .before .before .before .before .pre .4 ∙ ap (λ (i : ℕ). number (bytesAt (drop q s) (11 + i) 1)) xe in
-    let b7 = byte-number s (q + 7) (omega arith) in
-    let b8 = byte-number s (q + 8) (omega arith) in
-    let b9 = byte-number s (q + 9) (omega arith) in
-    let j = number (bytesAt (drop q s) (11 + k) 1) in
-    pass _ _ (zero-yes s q 5 2 (c .before .before .before .before .before .before .before .before .before .before .two .ensures .0) (c .before .before .before .before .before .before .before .before .before .if1 .left))
-    (pass _ _ (zero-yes s q 7 1 b7 (c .before .before .before .before .before .before .before .if2 .left))
-    (pass _ _ (sym (c .before .before .before .before .key-length .ensures ∙ ap keyLength (number-at s q 8 1 b8)) ∙ not-false _ (c .before .before .before .if3 .left))
-    (pass _ _ (sym (c .before .before .key-length2 .ensures ∙ ap keyLength (number-at s q 9 1 b9)) ∙ not-false _ (c .before .if4 .left))
-    (stop _ _ (lt-leb (number (bytesAt (drop q s) 8 1)) (number (bytesAt (drop q s) 9 1)) (omega (arith, (number-at s q 8 1 b8), (number-at s q 9 1 b9), c .if5 .taken)))))))
+variant : (c : tie.After-variant-length) → let b = c .before .before .before .before .before .before .before .before .before .before .before .before .before in c .variant-length .result ≡ variantLength (At b 9 1) (At b 11 (X b))
+variant c =
+    let b = c .before .before .before .before .before .before .before .before .before .before .before .before .before in
+    c .variant-length .ensures (At b 9 1) (At b 11 (X b)) (sym (byte b 9 (omega arith))) (length-behind (b .args .s .now) (b .args .q) 11 (b .pre .3) (omega (arith, b .pre)))
 
-variant-length-requires : tie.Need-variant-length-requires
-variant-length-requires c κs = c .before .before .before .before .before .before .before .before .before .before .before .before .pre .2
+past-6 : (c : tie.Else6) → Past 6 (c .before .before .before .before .before .before .before .before .before .before .before .before .before .before)
+past-6 c y = passed (past-5 (c .before .before) y) (sym (variant (c .before)) ∙ not-false _ (c .if6 .left))
 
-returns-6 : tie.Need-returns-6
-returns-6 c =
-    λ y.
-    let s = c .before .before .before .before .before .before .before .before .before .before .before .before .before .before .args .s .now in
-    let q = c .before .before .before .before .before .before .before .before .before .before .before .before .before .before .args .q in
-    let x = c .before .before .before .before .before .before .before .before .before .before .before .before .before .before .args .x in
-    let k = number (bytesAt (drop q s) 10 1) in
-    let xe = c .before .before .before .before .before .before .before .before .before .before .before .before .before .before .pre .3 in
-    let ce = c .before .before .before .before .before .before .before .before .before .before .before .before .before .before .pre .4 ∙ ap (λ (i : ℕ). number (bytesAt (drop q s) (11 + i) 1)) xe in
-    let b7 = byte-number s (q + 7) (omega arith) in
-    let b8 = byte-number s (q + 8) (omega arith) in
-    let b9 = byte-number s (q + 9) (omega arith) in
-    let j = number (bytesAt (drop q s) (11 + k) 1) in
-    pass _ _ (zero-yes s q 5 2 (c .before .before .before .before .before .before .before .before .before .before .before .before .two .ensures .0) (c .before .before .before .before .before .before .before .before .before .before .before .if1 .left))
-    (pass _ _ (zero-yes s q 7 1 b7 (c .before .before .before .before .before .before .before .before .before .if2 .left))
-    (pass _ _ (sym (c .before .before .before .before .before .before .key-length .ensures ∙ ap keyLength (number-at s q 8 1 b8)) ∙ not-false _ (c .before .before .before .before .before .if3 .left))
-    (pass _ _ (sym (c .before .before .before .before .key-length2 .ensures ∙ ap keyLength (number-at s q 9 1 b9)) ∙ not-false _ (c .before .before .before .if4 .left))
-    (pass _ _ (le-leb (number (bytesAt (drop q s) 8 1)) (number (bytesAt (drop q s) 9 1)) (omega (arith, (number-at s q 8 1 b8), (number-at s q 9 1 b9), c .before .before .if5 .left)))
-    (stop _ _ (sym (c .before .variant-length .ensures (bytesAt (drop q s) 9 1) (bytesAt (drop q s) 11 k) (sym (number-at s q 9 1 b9)) (length-behind s q 11 k (omega arith) ∙ sym xe)) ∙ not-true _ (c .if6 .taken)))))))
+control : (c : tie.After-control-length) → let b = c .before .before .before .before .before .before .before .before .before .before .before .before .before .before .before in c .control-length .result ≡ controlLength (At b (11 + X b + 1) (C b))
+control c =
+    let b = c .before .before .before .before .before .before .before .before .before .before .before .before .before .before .before in
+    c .control-length .ensures (At b (11 + X b + 1) (C b)) (length-behind (b .args .s .now) (b .args .q) (11 + X b + 1) (vector b) (omega (arith, b .pre, b .pre .3)))
 
-control-length-requires : tie.Need-control-length-requires
-control-length-requires c κs = search needs
-
-returns-7 : tie.Need-returns-7
-returns-7 c =
-    λ y.
-    let s = c .before .before .before .before .before .before .before .before .before .before .before .before .before .before .before .before .args .s .now in
-    let q = c .before .before .before .before .before .before .before .before .before .before .before .before .before .before .before .before .args .q in
-    let x = c .before .before .before .before .before .before .before .before .before .before .before .before .before .before .before .before .args .x in
-    let k = number (bytesAt (drop q s) 10 1) in
-    let xe = c .before .before .before .before .before .before .before .before .before .before .before .before .before .before .before .before .pre .3 in
-    let ce = c .before .before .before .before .before .before .before .before .before .before .before .before .before .before .before .before .pre .4 ∙ ap (λ (i : ℕ). number (bytesAt (drop q s) (11 + i) 1)) xe in
-    let b7 = byte-number s (q + 7) (omega arith) in
-    let b8 = byte-number s (q + 8) (omega arith) in
-    let b9 = byte-number s (q + 9) (omega arith) in
-    let j = number (bytesAt (drop q s) (11 + k) 1) in
-    pass _ _ (zero-yes s q 5 2 (c .before .before .before .before .before .before .before .before .before .before .before .before .before .before .two .ensures .0) (c .before .before .before .before .before .before .before .before .before .before .before .before .before .if1 .left))
-    (pass _ _ (zero-yes s q 7 1 b7 (c .before .before .before .before .before .before .before .before .before .before .before .if2 .left))
-    (pass _ _ (sym (c .before .before .before .before .before .before .before .before .key-length .ensures ∙ ap keyLength (number-at s q 8 1 b8)) ∙ not-false _ (c .before .before .before .before .before .before .before .if3 .left))
-    (pass _ _ (sym (c .before .before .before .before .before .before .key-length2 .ensures ∙ ap keyLength (number-at s q 9 1 b9)) ∙ not-false _ (c .before .before .before .before .before .if4 .left))
-    (pass _ _ (le-leb (number (bytesAt (drop q s) 8 1)) (number (bytesAt (drop q s) 9 1)) (omega (arith, (number-at s q 8 1 b8), (number-at s q 9 1 b9), c .before .before .before .before .if5 .left)))
-    (pass _ _ (sym (c .before .before .before .variant-length .ensures (bytesAt (drop q s) 9 1) (bytesAt (drop q s) 11 k) (sym (number-at s q 9 1 b9)) (length-behind s q 11 k (omega arith) ∙ sym xe)) ∙ not-false _ (c .before .before .if6 .left))
-    (stop _ _ (sym (c .before .control-length .ensures (bytesAt (drop q s) (11 + k + 1) j) (length-behind s q (11 + k + 1) j (omega arith) ∙ sym ce)) ∙ not-true _ (c .if7 .taken))))))))
-
-returns-8 : tie.Need-returns-8
-returns-8 c =
-    λ y.
-    let s = c .before .before .before .before .before .before .before .before .before .before .before .before .before .before .before .before .args .s .now in
-    let q = c .before .before .before .before .before .before .before .before .before .before .before .before .before .before .before .before .args .q in
-    let x = c .before .before .before .before .before .before .before .before .before .before .before .before .before .before .before .before .args .x in
-    let k = number (bytesAt (drop q s) 10 1) in
-    let xe = c .before .before .before .before .before .before .before .before .before .before .before .before .before .before .before .before .pre .3 in
-    let ce = c .before .before .before .before .before .before .before .before .before .before .before .before .before .before .before .before .pre .4 ∙ ap (λ (i : ℕ). number (bytesAt (drop q s) (11 + i) 1)) xe in
-    let b7 = byte-number s (q + 7) (omega arith) in
-    let b8 = byte-number s (q + 8) (omega arith) in
-    let b9 = byte-number s (q + 9) (omega arith) in
-    let j = number (bytesAt (drop q s) (11 + k) 1) in
-    pass _ _ (zero-yes s q 5 2 (c .before .before .before .before .before .before .before .before .before .before .before .before .before .before .two .ensures .0) (c .before .before .before .before .before .before .before .before .before .before .before .before .before .if1 .left))
-    (pass _ _ (zero-yes s q 7 1 b7 (c .before .before .before .before .before .before .before .before .before .before .before .if2 .left))
-    (pass _ _ (sym (c .before .before .before .before .before .before .before .before .key-length .ensures ∙ ap keyLength (number-at s q 8 1 b8)) ∙ not-false _ (c .before .before .before .before .before .before .before .if3 .left))
-    (pass _ _ (sym (c .before .before .before .before .before .before .key-length2 .ensures ∙ ap keyLength (number-at s q 9 1 b9)) ∙ not-false _ (c .before .before .before .before .before .if4 .left))
-    (pass _ _ (le-leb (number (bytesAt (drop q s) 8 1)) (number (bytesAt (drop q s) 9 1)) (omega (arith, (number-at s q 8 1 b8), (number-at s q 9 1 b9), c .before .before .before .before .if5 .left)))
-    (pass _ _ (sym (c .before .before .before .variant-length .ensures (bytesAt (drop q s) 9 1) (bytesAt (drop q s) 11 k) (sym (number-at s q 9 1 b9)) (length-behind s q 11 k (omega arith) ∙ sym xe)) ∙ not-false _ (c .before .before .if6 .left))
-    (pass _ _ (sym (c .before .control-length .ensures (bytesAt (drop q s) (11 + k + 1) j) (length-behind s q (11 + k + 1) j (omega arith) ∙ sym ce)) ∙ not-false _ (c .if7 .left))
-    (none)))))))
+-- where the length of the control vector stands, by the variant's length and by what states it
+vector-offset : (n k x : ℕ) → x ≡ k → coded n (11 + x) ≡ coded n (11 + k + 0)
+vector-offset n k x e = omega arith
 
 pub export-fields-spec : {M : Type 1} → statement M
 export-fields-spec =
     tie.close
     (tie.spec
-    add-two
-    two-requires
-    returns
-    add-if2
-    shared-slice-read-if2
-    returns-2
-    add-minimum
-    shared-slice-read-minimum
-    add-maximum
-    shared-slice-read-maximum
-    key-length-requires
-    returns-3
-    key-length-requires-2
-    returns-4
-    returns-5
-    variant-length-requires
-    returns-6
-    control-length-requires
-    returns-7
-    returns-8)
+    (λ c. search needs)
+    (λ c κs. search needs)
+    (λ c y. failed (all-left _) (zero-not _ _ 5 2 (c .before .two .ensures .0) (c .if1 .taken)))
+    (λ c. search needs)
+    (λ c. search needs)
+    (λ c y. failed (past-1 (c .before .before) y) (zero-not _ _ 7 1 (byte-at _ _ 12 7 (room (c .before .before .before .before .before)) (omega arith)) (c .if2 .taken)))
+    (λ c. search needs)
+    (λ c. search needs)
+    (λ c. search needs)
+    (λ c. search needs)
+    (λ c κs. search needs)
+    (λ c y. failed (past-2 (c .before .before .before .before) y) (key (c .before .before .before .before .before .before .before .before .before) 8 (omega arith) (c .before .key-length .ensures) ∙ not-true _ (c .if3 .taken)))
+    (λ c κs. search needs)
+    (λ c y. failed (past-3 (c .before .before) y) (key (c .before .before .before .before .before .before .before .before .before .before .before) 9 (omega arith) (c .before .key-length2 .ensures) ∙ not-true _ (c .if4 .taken)))
+    (λ c y. failed (past-4 (c .before) y) (order (c .before .before .before .before .before .before .before .before .before .before .before .before) ∙ lt-leb _ _ (c .if5 .taken)))
+    (λ c κs. c .before .before .before .before .before .before .before .before .before .before .before .before .pre .2)
+    (λ c y. failed (past-5 (c .before .before) y) (sym (variant (c .before)) ∙ not-true _ (c .if6 .taken)))
+    (λ c κs. search needs)
+    (λ c. search needs)
+    (λ c κs. search needs)
+    (λ c y.
+    let b = c .before .before .before .before .before .before .before .before .before .before .before .before .before .before .before .before .before in
+    c .at-offset .ensures ∙ vector-offset 18 (X b) (b .args .x) (b .pre .3) ∙ failed (past-6 (c .before .before .before) y) (sym (control (c .before .before)) ∙ not-true _ (c .before .if7 .taken)))
+    (λ c y. none-left (passed (past-6 (c .before .before) y) (sym (control (c .before)) ∙ not-false _ (c .if7 .left)))))

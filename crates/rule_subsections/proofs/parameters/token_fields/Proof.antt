@@ -1,189 +1,117 @@
 -- The first refusal of the fields of a 0005 is that of their tests.
-use mathlib.Core.Path.{sym, _∙_, ap}
-use Prim.Native.Nat.{ℕ, _+_}
+use mathlib.Core.Path.{_≡_, sym, ap, _∙_}
+use mathlib.Core.Bool.{Bool, _||_}
+use mathlib.Core.List.{List}
+use Prim.Native.Nat.{ℕ, _+_, _-_, _≤_}
 use native.Mathlib.Omega.{arith}
-use lib.ListN.{drop}
-use borrow.Author.Tests.{not-true, not-false}
+use lib.Dec.{eqb}
+use lib.ListN.{length, drop}
+use borrow.Author.Tests.{ne-eqb, not-true, not-false}
 use borrow.Author.Needs.{needs}
-use Rattle.format.specs.Forms.{labelForm}
 use Rattle.format.specs.Bytes.{number, bytesAt}
-use Rattle.sections.proofs.Laws.{stop, pass, none, zero-yes, zero-not, byte-number}
-use Rattle.rule_subsections.proofs.Laws.{length-behind, label-at, label-none, label-other, label-there}
+use Rattle.format.specs.Forms.{labelForm, labelReach}
+use Rattle.format.specs.Parts.{tokenParameters}
+use Rattle.format.specs.Rules.{controlLength}
+use Rattle.format.specs.Reading.{fieldChecks}
+use Rattle.sections.specs.Refusals.{coded}
+use Rattle.sections.proofs.Laws.{Left, all-left, passed, failed, none-left, zero-yes, zero-not, byte-at}
+use Rattle.rule_subsections.proofs.Laws.{length-behind, label-at}
 use Rattle.rule_subsections.proofs.parameters.token_fields.Statement.{statement}
 use Rattle.rule_subsections.proofs.parameters.token_fields.Tie as tie
 
-add-two : tie.Need-add-two
-add-two c = search needs
+-- the first k tests of the fields have passed
+abbrev Past : ℕ → tie.Start → Type 0
+Past k c = (x : Bool) → let cs = fieldChecks x tokenParameters (drop (c .args .q) (c .args .s .now)) in Left cs (drop k cs)
 
-two-requires : tie.Need-two-requires
-two-requires c κs = search needs
+-- the w bytes at offset o of the subsection
+abbrev At : tie.Start → ℕ → ℕ → List ℕ
+At c o w = bytesAt (drop (c .args .q) (c .args .s .now)) o w
 
-returns : tie.Need-returns
-returns c =
-    λ x.
-    let s = c .before .before .before .args .s .now in
-    let q = c .before .before .before .args .q in
-    let m = c .before .before .before .args .m in
-    let z = c .before .before .before .args .z in
-    let k = number (bytesAt (drop q s) 8 1) in
-    let me = c .before .before .before .pre .2 in
-    let ze = c .before .before .before .pre .3 ∙ ap (λ (i : ℕ). number (bytesAt (drop q s) (9 + i + i) 1)) me in
-    let j = number (bytesAt (drop q s) (9 + k + k) 1) in
-    let f = bytesAt (drop q s) (9 + k + k + 1) j in
-    let fe = length-behind s q (9 + k + k + 1) j (omega arith) ∙ sym ze in
-    stop _ _ (zero-not s q 5 2 (c .before .two .ensures .0) (c .if1 .taken))
+room : (c : tie.Start) → c .args .q + 10 ≤ length (c .args .s .now)
+room c = omega (arith, c .pre)
 
-add-if2 : tie.Need-add-if2
-add-if2 c = search needs
+-- the lengths of the masks and of the label template, as they are stated, and the template
+abbrev M : tie.Start → ℕ
+M c = number (At c 8 1)
 
-shared-slice-read-if2 : tie.Need-shared-slice-read-if2
-shared-slice-read-if2 c = search needs
+abbrev Z : tie.Start → ℕ
+Z c = number (At c (9 + M c + M c) 1)
 
-returns-2 : tie.Need-returns-2
-returns-2 c =
-    λ x.
-    let s = c .before .before .before .before .before .args .s .now in
-    let q = c .before .before .before .before .before .args .q in
-    let m = c .before .before .before .before .before .args .m in
-    let z = c .before .before .before .before .before .args .z in
-    let k = number (bytesAt (drop q s) 8 1) in
-    let me = c .before .before .before .before .before .pre .2 in
-    let ze = c .before .before .before .before .before .pre .3 ∙ ap (λ (i : ℕ). number (bytesAt (drop q s) (9 + i + i) 1)) me in
-    let j = number (bytesAt (drop q s) (9 + k + k) 1) in
-    let f = bytesAt (drop q s) (9 + k + k + 1) j in
-    let fe = length-behind s q (9 + k + k + 1) j (omega arith) ∙ sym ze in
-    pass _ _ (zero-yes s q 5 2 (c .before .before .before .two .ensures .0) (c .before .before .if1 .left))
-    (stop _ _ (zero-not s q 7 1 (byte-number s (q + 7) (omega arith)) (c .if2 .taken)))
+abbrev Label : tie.Start → List ℕ
+Label c = At c (9 + M c + M c + 1) (Z c)
 
-control-length-requires : tie.Need-control-length-requires
-control-length-requires c κs = search needs
+states-z : (c : tie.Start) → c .args .z ≡ Z c
+states-z c = c .pre .3 ∙ ap (λ (i : ℕ). number (At c (9 + i + i) 1)) (c .pre .2)
 
-returns-3 : tie.Need-returns-3
-returns-3 c =
-    λ x.
-    let s = c .before .before .before .before .before .before .before .args .s .now in
-    let q = c .before .before .before .before .before .before .before .args .q in
-    let m = c .before .before .before .before .before .before .before .args .m in
-    let z = c .before .before .before .before .before .before .before .args .z in
-    let k = number (bytesAt (drop q s) 8 1) in
-    let me = c .before .before .before .before .before .before .before .pre .2 in
-    let ze = c .before .before .before .before .before .before .before .pre .3 ∙ ap (λ (i : ℕ). number (bytesAt (drop q s) (9 + i + i) 1)) me in
-    let j = number (bytesAt (drop q s) (9 + k + k) 1) in
-    let f = bytesAt (drop q s) (9 + k + k + 1) j in
-    let fe = length-behind s q (9 + k + k + 1) j (omega arith) ∙ sym ze in
-    pass _ _ (zero-yes s q 5 2 (c .before .before .before .before .before .two .ensures .0) (c .before .before .before .before .if1 .left))
-    (pass _ _ (zero-yes s q 7 1 (byte-number s (q + 7) (omega arith)) (c .before .before .if2 .left))
-    (stop _ _ (sym (c .before .control-length .ensures (bytesAt (drop q s) 9 k) (length-behind s q 9 k (omega arith) ∙ sym me)) ∙ not-true _ (c .if3 .taken))))
+label-length : (c : tie.Start) → length (Label c) ≡ c .args .z
+label-length c = length-behind (c .args .s .now) (c .args .q) (9 + M c + M c + 1) (states-z c) (omega (arith, c .pre, c .pre .2))
 
-returns-4 : tie.Need-returns-4
-returns-4 c =
-    λ x.
-    let s = c .before .before .before .before .before .before .before .before .args .s .now in
-    let q = c .before .before .before .before .before .before .before .before .args .q in
-    let m = c .before .before .before .before .before .before .before .before .args .m in
-    let z = c .before .before .before .before .before .before .before .before .args .z in
-    let k = number (bytesAt (drop q s) 8 1) in
-    let me = c .before .before .before .before .before .before .before .before .pre .2 in
-    let ze = c .before .before .before .before .before .before .before .before .pre .3 ∙ ap (λ (i : ℕ). number (bytesAt (drop q s) (9 + i + i) 1)) me in
-    let j = number (bytesAt (drop q s) (9 + k + k) 1) in
-    let f = bytesAt (drop q s) (9 + k + k + 1) j in
-    let fe = length-behind s q (9 + k + k + 1) j (omega arith) ∙ sym ze in
-    let no = label-none f (labelForm f) (fe ∙ c .if4 .taken) in
-    pass _ _ (zero-yes s q 5 2 (c .before .before .before .before .before .before .two .ensures .0) (c .before .before .before .before .before .if1 .left))
-    (pass _ _ (zero-yes s q 7 1 (byte-number s (q + 7) (omega arith)) (c .before .before .before .if2 .left))
-    (pass _ _ (sym (c .before .before .control-length .ensures (bytesAt (drop q s) 9 k) (length-behind s q 9 k (omega arith) ∙ sym me)) ∙ not-false _ (c .before .if3 .left))
-    (pass _ _ (no .0)
-    (pass _ _ (no .1)
-    (none)))))
+past-1 : (c : tie.Else1) → Past 1 (c .before .before .before)
+past-1 c x = passed (all-left _) (zero-yes _ _ 5 2 (c .before .two .ensures .0) (c .if1 .left))
 
-returns-5 : tie.Need-returns-5
-returns-5 c =
-    λ x.
-    let s = c .before .before .before .before .before .before .before .before .before .args .s .now in
-    let q = c .before .before .before .before .before .before .before .before .before .args .q in
-    let m = c .before .before .before .before .before .before .before .before .before .args .m in
-    let z = c .before .before .before .before .before .before .before .before .before .args .z in
-    let k = number (bytesAt (drop q s) 8 1) in
-    let me = c .before .before .before .before .before .before .before .before .before .pre .2 in
-    let ze = c .before .before .before .before .before .before .before .before .before .pre .3 ∙ ap (λ (i : ℕ). number (bytesAt (drop q s) (9 + i + i) 1)) me in
-    let j = number (bytesAt (drop q s) (9 + k + k) 1) in
-    let f = bytesAt (drop q s) (9 + k + k + 1) j in
-    let fe = length-behind s q (9 + k + k + 1) j (omega arith) ∙ sym ze in
-    pass _ _ (zero-yes s q 5 2 (c .before .before .before .before .before .before .before .two .ensures .0) (c .before .before .before .before .before .before .if1 .left))
-    (pass _ _ (zero-yes s q 7 1 (byte-number s (q + 7) (omega arith)) (c .before .before .before .before .if2 .left))
-    (pass _ _ (sym (c .before .before .before .control-length .ensures (bytesAt (drop q s) 9 k) (length-behind s q 9 k (omega arith) ∙ sym me)) ∙ not-false _ (c .before .before .if3 .left))
-    (stop _ _ (label-other f (λ e. c .before .if4 .left (sym fe ∙ e)) (λ e. c .if5 .taken (sym fe ∙ e))))))
+past-2 : (c : tie.Else2) → Past 2 (c .before .before .before .before .before)
+past-2 c x = passed (past-1 (c .before .before) x) (zero-yes _ _ 7 1 (byte-at _ _ 10 7 (room (c .before .before .before .before .before)) (omega arith)) (c .if2 .left))
 
-add-label-form : tie.Need-add-label-form
-add-label-form c = search needs
+mask : (c : tie.After-control-length) → let b = c .before .before .before .before .before .before in c .control-length .result ≡ controlLength (At b 9 (M b))
+mask c =
+    let b = c .before .before .before .before .before .before in
+    c .control-length .ensures (At b 9 (M b)) (length-behind (b .args .s .now) (b .args .q) 9 (b .pre .2) (omega (arith, b .pre)))
 
-add-label-form-2 : tie.Need-add-label-form-2
-add-label-form-2 c = search needs
+past-3 : (c : tie.Else3) → Past 3 (c .before .before .before .before .before .before .before)
+past-3 c x = passed (past-2 (c .before .before) x) (sym (mask (c .before)) ∙ not-false _ (c .if3 .left))
 
-add-label-form-3 : tie.Need-add-label-form-3
-add-label-form-3 c = search needs
+-- the template is there
+there : (c : tie.Else5) → length (Label (c .before .before .before .before .before .before .before .before .before)) ≡ 64
+there c = label-length (c .before .before .before .before .before .before .before .before .before) ∙ c .if5 .left
 
-label-form-requires : tie.Need-label-form-requires
-label-form-requires c κs = search needs
+past-5 : (c : tie.Else5) → Past 4 (c .before .before .before .before .before .before .before .before .before)
+past-5 c x = passed (past-3 (c .before .before) x) (rw (there c))
 
-returns-6 : tie.Need-returns-6
-returns-6 c =
-    λ x.
-    let s = c .before .before .before .before .before .before .before .before .before .before .before .args .s .now in
-    let q = c .before .before .before .before .before .before .before .before .before .before .before .args .q in
-    let m = c .before .before .before .before .before .before .before .before .before .before .before .args .m in
-    let z = c .before .before .before .before .before .before .before .before .before .before .before .args .z in
-    let k = number (bytesAt (drop q s) 8 1) in
-    let me = c .before .before .before .before .before .before .before .before .before .before .before .pre .2 in
-    let ze = c .before .before .before .before .before .before .before .before .before .before .before .pre .3 ∙ ap (λ (i : ℕ). number (bytesAt (drop q s) (9 + i + i) 1)) me in
-    let j = number (bytesAt (drop q s) (9 + k + k) 1) in
-    let f = bytesAt (drop q s) (9 + k + k + 1) j in
-    let fe = length-behind s q (9 + k + k + 1) j (omega arith) ∙ sym ze in
-    let there = (label-there f (labelForm f) (fe ∙ c .before .before .if5 .left)) in
-    pass _ _ (zero-yes s q 5 2 (c .before .before .before .before .before .before .before .before .before .two .ensures .0) (c .before .before .before .before .before .before .before .before .if1 .left))
-    (pass _ _ (zero-yes s q 7 1 (byte-number s (q + 7) (omega arith)) (c .before .before .before .before .before .before .if2 .left))
-    (pass _ _ (sym (c .before .before .before .before .before .control-length .ensures (bytesAt (drop q s) 9 k) (length-behind s q 9 k (omega arith) ∙ sym me)) ∙ not-false _ (c .before .before .before .before .if3 .left))
-    (pass _ _ (there .0)
-    (stop _ _ (there .1 ∙ sym (c .before .label-form .ensures ∙ ap labelForm (sym (label-at s q me (sym ze ∙ c .before .before .if5 .left)))) ∙ not-true _ (c .if6 .taken))))))
+-- the bytes that the code looks at are the template
+same : (c : tie.Else5) → let b = c .before .before .before .before .before .before .before .before .before in bytesAt (b .args .s .now) (b .args .q + 10 + b .args .m + b .args .m) 64 ≡ Label b
+same c = let b = c .before .before .before .before .before .before .before .before .before in sym (label-at (b .args .s .now) (b .args .q) (b .pre .2) (sym (states-z b) ∙ c .if5 .left))
 
-returns-7 : tie.Need-returns-7
-returns-7 c =
-    λ x.
-    let s = c .before .before .before .before .before .before .before .before .before .before .before .args .s .now in
-    let q = c .before .before .before .before .before .before .before .before .before .before .before .args .q in
-    let m = c .before .before .before .before .before .before .before .before .before .before .before .args .m in
-    let z = c .before .before .before .before .before .before .before .before .before .before .before .args .z in
-    let k = number (bytesAt (drop q s) 8 1) in
-    let me = c .before .before .before .before .before .before .before .before .before .before .before .pre .2 in
-    let ze = c .before .before .before .before .before .before .before .before .before .before .before .pre .3 ∙ ap (λ (i : ℕ). number (bytesAt (drop q s) (9 + i + i) 1)) me in
-    let j = number (bytesAt (drop q s) (9 + k + k) 1) in
-    let f = bytesAt (drop q s) (9 + k + k + 1) j in
-    let fe = length-behind s q (9 + k + k + 1) j (omega arith) ∙ sym ze in
-    let there = (label-there f (labelForm f) (fe ∙ c .before .before .if5 .left)) in
-    pass _ _ (zero-yes s q 5 2 (c .before .before .before .before .before .before .before .before .before .two .ensures .0) (c .before .before .before .before .before .before .before .before .if1 .left))
-    (pass _ _ (zero-yes s q 7 1 (byte-number s (q + 7) (omega arith)) (c .before .before .before .before .before .before .if2 .left))
-    (pass _ _ (sym (c .before .before .before .before .before .control-length .ensures (bytesAt (drop q s) 9 k) (length-behind s q 9 k (omega arith) ∙ sym me)) ∙ not-false _ (c .before .before .before .before .if3 .left))
-    (pass _ _ (there .0)
-    (pass _ _ (there .1 ∙ sym (c .before .label-form .ensures ∙ ap labelForm (sym (label-at s q me (sym ze ∙ c .before .before .if5 .left)))) ∙ not-false _ (c .if6 .left))
-    (none)))))
+form : (c : tie.After-label-form) → let l = Label (c .before .before .before .before .before .before .before .before .before .before) in (eqb (length l) 0 || labelForm l) ≡ c .label-form .result
+form c = rw (there (c .before)) (sym (c .label-form .ensures ∙ ap labelForm (same (c .before))))
+
+-- where the template's length stands, and the place within the template
+length-offset : (n k m : ℕ) → m ≡ k → coded n (9 + m + m) ≡ coded n (9 + k + k + 0)
+length-offset n k m e = omega arith
+
+place-offset : (n k m q i j : ℕ) → m ≡ k → i ≡ j → coded n (q + 10 + m + m - q + i) ≡ coded n (9 + k + k + 1 + j)
+place-offset n k m q i j e f = omega arith
 
 pub token-fields-spec : {M : Type 1} → statement M
 token-fields-spec =
     tie.close
     (tie.spec
-    add-two
-    two-requires
-    returns
-    add-if2
-    shared-slice-read-if2
-    returns-2
-    control-length-requires
-    returns-3
-    returns-4
-    returns-5
-    add-label-form
-    add-label-form-2
-    add-label-form-3
-    label-form-requires
-    returns-6
-    returns-7)
+    (λ c. search needs)
+    (λ c κs. search needs)
+    (λ c x. failed (all-left _) (zero-not _ _ 5 2 (c .before .two .ensures .0) (c .if1 .taken)))
+    (λ c. search needs)
+    (λ c. search needs)
+    (λ c x. failed (past-1 (c .before .before) x) (zero-not _ _ 7 1 (byte-at _ _ 10 7 (room (c .before .before .before .before .before)) (omega arith)) (c .if2 .taken)))
+    (λ c κs. search needs)
+    (λ c x. failed (past-2 (c .before .before) x) (sym (mask (c .before)) ∙ not-true _ (c .if3 .taken)))
+    (λ c x. let e = label-length (c .before .before .before .before .before .before .before .before) ∙ c .if4 .taken in none-left (passed (passed (past-3 (c .before) x) (rw e)) (rw e)))
+    (λ c. search needs)
+    (λ c. search needs)
+    (λ c κs. let b = c .before .before .before .before .before .before .before .before .before in omega (arith, b .pre))
+    (λ c x.
+    let b = c .before .before .before .before .before .before .before .before .before .before in
+    c .at-offset .ensures ∙ length-offset 18 (M b) (b .args .m) (b .pre .2)
+    ∙ failed (past-3 (c .before .before .before) x) (rw (label-length b, ne-eqb (b .args .z) 0 (c .before .before .if4 .left), ne-eqb (b .args .z) 64 (c .before .if5 .taken))))
+    (λ c. search needs)
+    (λ c. search needs)
+    (λ c. search needs)
+    (λ c κs. let b = c .before .before .before .before .before .before .before .before .before in (omega (arith, b .pre, c .if5 .left), b .pre .4))
+    (λ c. search needs)
+    (λ c κs. let b = c .before .before .before .before .before .before .before .before .before .before .before in omega (arith, b .pre, c .before .before .if5 .left))
+    (λ c. omega (arith, c .before .before .before .before .before .before .before .before .before .before .before .before .pre, c .label-place .ensures .1))
+    (λ c κs. omega (arith, c .before .before .before .before .before .before .before .before .before .before .before .before .pre, c .label-place .ensures .1))
+    (λ c x.
+    let b = c .before .before .before .before .before .before .before .before .before .before .before .before .before in
+    let i = c .before .label-place .ensures .0 ∙ ap labelReach (same (c .before .before .before .before)) in
+    c .at-offset2 .ensures ∙ place-offset 17 (M b) (b .args .m) (b .args .q) _ _ (b .pre .2) i
+    ∙ failed (past-5 (c .before .before .before .before) x) (form (c .before .before .before) ∙ not-true _ (c .before .before .if6 .taken)))
+    (λ c x. none-left (passed (past-5 (c .before .before) x) (form (c .before) ∙ not-false _ (c .if6 .left)))))

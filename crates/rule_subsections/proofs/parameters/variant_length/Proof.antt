@@ -5,23 +5,13 @@ use borrow.Author.Needs.{needs}
 use Rattle.rule_subsections.proofs.parameters.variant_length.Statement.{statement}
 use Rattle.rule_subsections.proofs.parameters.variant_length.Tie as tie
 
-returns : tie.Need-returns
-returns c = λ f g d e. rw (e, c .if1 .taken)
-
-returns-2 : tie.Need-returns-2
-returns-2 c =
-    λ f g d e.
-    let n = c .before .before .args .n in
-    rw (e, ne-eqb n 0 (c .before .if1 .left), lt-leb 8 n (c .if2 .taken))
-
-wide-requires : tie.Need-wide-requires
-wide-requires c κs = search needs
-
-returns-3 : tie.Need-returns-3
-returns-3 c =
-    λ f g d e.
-    let n = c .before .before .before .args .n in
-    rw (e, d, ne-eqb n 0 (c .before .before .if1 .left), le-leb 8 n (c .before .if2 .left), le-leb n 255 (omega arith), c .wide .ensures .0)
-
 pub variant-length-spec : {M : Type 1} → statement M
-variant-length-spec = tie.close (tie.spec returns returns-2 wide-requires returns-3)
+variant-length-spec =
+    tie.close
+    (tie.spec
+    (λ c f g d e. rw (e, c .if1 .taken))
+    (λ c f g d e. let n = c .before .before .args .n in rw (e, ne-eqb n 0 (c .before .if1 .left), lt-leb 8 n (c .if2 .taken)))
+    (λ c κs. search needs)
+    (λ c f g d e.
+    let n = c .before .before .before .args .n in
+    rw (e, d, ne-eqb n 0 (c .before .before .if1 .left), le-leb 8 n (c .before .if2 .left), le-leb n 255 (omega arith), c .wide .ensures .0)))

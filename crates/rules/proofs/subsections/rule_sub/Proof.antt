@@ -1,117 +1,54 @@
 -- The number of a rule's subsection is that of its kind, by its tag.
 use mathlib.Core.Logic.{⊎-elim}
-use mathlib.Core.Path.{refl, sym, _∙_, ap}
-use lib.ListN.{drop}
+use mathlib.Core.Path.{_≡_, refl, sym, _∙_, ap}
+use mathlib.Core.Bool.{Bool, not}
+use mathlib.Core.List.{List}
+use Prim.Native.Nat.{ℕ}
+use lib.Dec.{eqb}
+use lib.ListN.{getD, drop}
 use borrow.Author.Needs.{needs}
-use Rattle.format.specs.Parts.{rule, transportVariant, transportRule, exportParameters, sourceRule, tokenParameters}
-use Rattle.format.specs.Reading.{subsectionKind}
-use Rattle.sections.proofs.Subs.{sub-short, sub-unknown, at-here}
-use Rattle.rules.proofs.Turns.{tag-five, tag-past, rule-known}
+use Rattle.format.specs.Bytes.{number, bytesAt}
+use Rattle.format.specs.Parts.{Kind, rule, transportVariant, transportRule, exportParameters, sourceRule, tokenParameters, tag, Part}
+use Rattle.format.specs.Reading.{subsectionKind, subsectionChecks}
+use Rattle.sections.specs.Refusals.{firstRefusal, subRefusal}
+use Rattle.sections.proofs.Subs.{sub-short, sub-unknown, sub-known, at-here}
+use Rattle.rules.specs.Loops.{OfRule, Marked}
+use Rattle.rules.proofs.Turns.{tag-five, tag-past}
 use Rattle.rules.proofs.subsections.rule_sub.Statement.{statement}
 use Rattle.rules.proofs.subsections.rule_sub.Tie as tie
 
-returns : tie.Need-returns
-returns c =
-    λ x before marks.
-    let s = c .before .before .args .s .now in
-    let q = c .before .before .args .q in
-    let n = c .before .before .args .n in
-    let places = c .before .before .args .places .now in
-    sub-short x rule before n (drop q s) (c .if1 .taken)
+-- the tag that was read is the one that the subsection begins with
+tag-read : (c : tie.After-two) → number (bytesAt (drop (c .before .before .before .args .q) (c .before .before .before .args .s .now)) 0 2) ≡ c .two .result
+tag-read c = at-here _ _ 2 ∙ sym (c .two .ensures .0)
 
-two-requires : tie.Need-two-requires
-two-requires c κs = search needs
-
-returns-2 : tie.Need-returns-2
-returns-2 c =
-    λ x before marks.
-    let s = c .before .before .before .before .args .s .now in
-    let q = c .before .before .before .before .args .q in
-    let n = c .before .before .before .before .args .n in
-    let places = c .before .before .before .before .args .places .now in
-    sub-unknown x rule before n (drop q s) (c .before .before .if1 .left) (ap (subsectionKind rule) ((at-here s q 2 ∙ sym (c .before .two .ensures .0)) ∙ c .if2 .taken))
-
-returns-3 : tie.Need-returns-3
-returns-3 c =
-    λ x before marks.
-    let s = c .before .before .before .before .before .args .s .now in
-    let q = c .before .before .before .before .before .args .q in
-    let n = c .before .before .before .before .before .args .n in
-    let places = c .before .before .before .before .before .args .places .now in
-    sub-unknown x rule before n (drop q s) (c .before .before .before .if1 .left) (ap (subsectionKind rule) (at-here s q 2 ∙ sym (c .before .before .two .ensures .0)) ∙ tag-past (c .before .before .two .result) (c .if3 .taken))
-
-mul-seen : tie.Need-mul-seen
-mul-seen c = search needs
-
-element-copy-out-seen : tie.Need-element-copy-out-seen
-element-copy-out-seen c = search needs
-
-variant-at-requires : tie.Need-variant-at-requires
-variant-at-requires c κs = search needs
-
-reference-at-requires : tie.Need-reference-at-requires
-reference-at-requires c κs = search needs
-
-export-at-requires : tie.Need-export-at-requires
-export-at-requires c κs = search needs
-
-token-at-requires : tie.Need-token-at-requires
-token-at-requires c κs = search needs
-
-returns-4 : tie.Need-returns-4
-returns-4 c =
-    λ x before marks.
-    let s = c .before .before .before .before .before .before .before .before .args .s .now in
-    let q = c .before .before .before .before .before .before .before .before .args .q in
-    let n = c .before .before .before .before .before .before .before .before .args .n in
-    let places = c .before .before .before .before .before .before .before .before .args .places .now in
-    rule-known x before n s q places transportVariant (c .before .before .before .before .before .two .result) refl marks (c .before .before .before .before .before .before .if1 .left) (c .before .before .before .before .before .two .ensures .0) (c .before .match .keys1) (c .variant-at .ensures x)
-
-returns-5 : tie.Need-returns-5
-returns-5 c =
-    λ x before marks.
-    let s = c .before .before .before .before .before .before .before .before .args .s .now in
-    let q = c .before .before .before .before .before .before .before .before .args .q in
-    let n = c .before .before .before .before .before .before .before .before .args .n in
-    let places = c .before .before .before .before .before .before .before .before .args .places .now in
-    ⊎-elim
-    (λ e. rule-known x before n s q places transportRule (c .before .before .before .before .before .two .result) refl marks (c .before .before .before .before .before .before .if1 .left) (c .before .before .before .before .before .two .ensures .0) e (c .reference-at .ensures x))
-    (λ e. rule-known x before n s q places sourceRule (c .before .before .before .before .before .two .result) refl marks (c .before .before .before .before .before .before .if1 .left) (c .before .before .before .before .before .two .ensures .0) e (c .reference-at .ensures x))
-    (c .before .match .keys2)
-
-returns-6 : tie.Need-returns-6
-returns-6 c =
-    λ x before marks.
-    let s = c .before .before .before .before .before .before .before .before .args .s .now in
-    let q = c .before .before .before .before .before .before .before .before .args .q in
-    let n = c .before .before .before .before .before .before .before .before .args .n in
-    let places = c .before .before .before .before .before .before .before .before .args .places .now in
-    rule-known x before n s q places exportParameters (c .before .before .before .before .before .two .result) refl marks (c .before .before .before .before .before .before .if1 .left) (c .before .before .before .before .before .two .ensures .0) (c .before .match .keys3) (c .export-at .ensures x)
-
-returns-7 : tie.Need-returns-7
-returns-7 c =
-    λ x before marks.
-    let s = c .before .before .before .before .before .before .before .before .args .s .now in
-    let q = c .before .before .before .before .before .before .before .before .args .q in
-    let n = c .before .before .before .before .before .before .before .before .args .n in
-    let places = c .before .before .before .before .before .before .before .before .args .places .now in
-    rule-known x before n s q places tokenParameters (c .before .before .before .before .before .two .result) refl marks (c .before .before .before .before .before .before .if1 .left) (c .before .before .before .before .before .two .ensures .0) (tag-five (c .before .before .before .before .before .two .result) (c .before .before .before .before .if2 .left) (c .before .before .before .if3 .left) (c .before .match .rest .0 .0 .1) (c .before .match .rest .0 .1) (c .before .match .rest .1)) (c .token-at .ensures x)
+-- where it is the tag of kind k, the first refusal is that of k's tests; the places tell whether the tag is seen
+known : (c : tie.After-seen) (k : Kind) (x : Bool) {m : ℕ} → let b = c .before .before .before .before .before .before in let t = c .before .before .before .two .result in
+    OfRule k → t ≡ tag k → m ≡ firstRefusal (subsectionChecks x k (not (eqb (getD (b .args .places .now) t 0) 0)) (b .args .n) (drop (b .args .q) (b .args .s .now)))
+    → (before : List Part) → Marked before (b .args .places .now) → m ≡ subRefusal x rule before (b .args .n) (drop (b .args .q) (b .args .s .now))
+known c k x o e f before marks =
+    let b = c .before .before .before .before .before .before in
+    sub-known x rule before (b .args .n) (drop (b .args .q) (b .args .s .now)) k _ (c .before .before .before .before .if1 .left)
+    (ap (subsectionKind rule) (tag-read (c .before .before .before) ∙ e) ∙ o)
+    (marks k o ∙ ap (λ (i : ℕ). not (eqb (getD (b .args .places .now) i 0) 0)) (sym e)) f
 
 pub rule-sub-spec : {M : Type 1} → statement M
 rule-sub-spec =
     tie.close
     (tie.spec
-    returns
-    two-requires
-    returns-2
-    returns-3
-    mul-seen
-    element-copy-out-seen
-    variant-at-requires
-    reference-at-requires
-    export-at-requires
-    token-at-requires
-    returns-4
-    returns-5
-    returns-6
-    returns-7)
+    (λ c x before marks. sub-short x rule before _ _ (c .if1 .taken))
+    (λ c κs. search needs)
+    (λ c x before marks. sub-unknown x rule before _ _ (c .before .before .if1 .left) (ap (subsectionKind rule) (tag-read (c .before) ∙ c .if2 .taken)))
+    (λ c x before marks. sub-unknown x rule before _ _ (c .before .before .before .if1 .left) (ap (subsectionKind rule) (tag-read (c .before .before)) ∙ tag-past _ (c .if3 .taken)))
+    (λ c. search needs)
+    (λ c. search needs)
+    (λ c κs. search needs)
+    (λ c κs. search needs)
+    (λ c κs. search needs)
+    (λ c κs. search needs)
+    (λ c x. known (c .before .before) transportVariant x refl (c .before .match .keys1) (c .variant-at .ensures x))
+    (λ c x. ⊎-elim (λ e. known (c .before .before) transportRule x refl e (c .reference-at .ensures x)) (λ e. known (c .before .before) sourceRule x refl e (c .reference-at .ensures x)) (c .before .match .keys2))
+    (λ c x. known (c .before .before) exportParameters x refl (c .before .match .keys3) (c .export-at .ensures x))
+    (λ c x.
+    let other = c .before .match .rest in
+    let tag = tag-five _ (c .before .before .before .before .if2 .left) (c .before .before .before .if3 .left) (other .0 .0 .1) (other .0 .1) (other .1) in
+    known (c .before .before) tokenParameters x refl tag (c .token-at .ensures x)))

@@ -1,114 +1,64 @@
 -- Section 14: its head, its fields, then its subsections.
-use Rattle.sections.proofs.Heads.{section-stops, section-goes, head-room}
-use Rattle.sections.specs.Refusals.{sectionRows}
-use Rattle.format.specs.Reading.{fieldChecks, asAnswer, sectionKind}
-use Rattle.format.specs.Parts.{information}
-use Rattle.sections.specs.Refusals.{headChecks}
-use Rattle.sections.proofs.Laws.{pass, none, head-stop, head-pass, number-at}
-use Rattle.format.specs.Bytes.{number, bytesAt}
-use lib.ListN.{drop}
-use native.Mathlib.Omega.{arith}
-use Prim.Native.Nat.{ℕ, _+_}
 use mathlib.Core.Path.{_≡_, refl, sym, _∙_, ap}
+use mathlib.Core.Bool.{false}
+use mathlib.Core.List.{List}
+use Prim.Native.Nat.{ℕ, _+_, _-_, _≤_}
+use native.Mathlib.Omega.{arith}
+use lib.ListN.{length, drop}
 use borrow.Author.Needs.{needs}
+use Rattle.format.specs.Parts.{information}
+use Rattle.format.specs.Reading.{Test, fieldChecks, sectionChecks, asAnswer, sectionKind, stated}
+use Rattle.sections.specs.Refusals.{sectionRows}
+use Rattle.sections.proofs.Heads.{section-stops, section-goes}
+use Rattle.sections.proofs.Laws.{passed, none-left, Made, made, section-head, head-room, number-at}
 use Rattle.sections.proofs.information.information_at.Statement.{statement}
 use Rattle.sections.proofs.information.information_at.Tie as tie
 
-section-head-requires : tie.Need-section-head-requires
-section-head-requires c κs = search needs
+-- its tests; that no rule has its Rule ID says nothing here
+abbrev Tests : tie.Start → List Test
+Tests c = sectionChecks (c .args .external) information (c .args .seen) false (drop (c .args .p) (c .args .s .now))
 
-cast-t10 : tie.Need-cast-t10
-cast-t10 c = search needs
+-- the head makes the first three, and that the fields make the length is not asked; the next two are those of the fields
+head : (c : tie.After-section-head) → Made (c .section-head .result) (Tests (c .before .before)) (drop 3 (Tests (c .before .before)))
+head c = section-head 10 _ _ _ (c .section-head .ensures)
 
-returns : tie.Need-returns
-unfolding headChecks
-returns c =
-    λ before a.
-    let s = c .before .before .before .args .s .now in
-    let p = c .before .before .before .args .p in
-    let x = c .before .before .before .args .external in
-    let full = c .before .before .before .args .full in
-    let seen = c .before .before .before .args .seen in
-    let r = drop p s in
-    let k = ap sectionKind (c .before .before .before .pre .2) in
-    section-stops full x information before s p (c .before .before .before .pre .0) k a refl
-    (head-stop (headChecks 10 seen r) _ (c .before .section-head .ensures) (c .if1 .taken)) (c .if1 .taken)
+fields : (c : tie.After-information-fields) → let b = c .before .before .before .before in Made (c .information-fields .result) (Tests b) (drop 6 (Tests b))
+fields c =
+    let b = c .before .before .before .before in
+    made (fieldChecks (b .args .external) information (drop (b .args .p) (b .args .s .now))) _ (passed (head (c .before .before) .left (c .before .if1 .left)) refl) refl (c .information-fields .ensures false)
 
-information-fields-requires : tie.Need-information-fields-requires
-information-fields-requires c κs =
-    let s = c .before .before .before .args .s .now in
-    let p = c .before .before .before .args .p in
-    let m = head-room 10 (c .before .before .before .args .seen) s p (c .before .section-head .ensures) (c .if1 .left) in
-    (omega (arith, m .0, m .1), search needs)
+-- the section ends within the bytes
+room : (c : tie.Else1) → let r = drop (c .before .before .before .args .p) (c .before .before .before .args .s .now) in
+    (10 ≤ stated r) × (stated r ≤ length (c .before .before .before .args .s .now) - c .before .before .before .args .p)
+room c = head-room 10 _ (c .before .before .before .args .s .now) (c .before .before .before .args .p) (c .before .section-head .ensures) (c .if1 .left)
 
-cast-t11 : tie.Need-cast-t11
-cast-t11 c = search needs
-
-returns-2 : tie.Need-returns-2
-unfolding headChecks
-returns-2 c =
-    λ before a.
-    let s = c .before .before .before .before .before .args .s .now in
-    let p = c .before .before .before .before .before .args .p in
-    let x = c .before .before .before .before .before .args .external in
-    let full = c .before .before .before .before .before .args .full in
-    let seen = c .before .before .before .before .before .args .seen in
-    let r = drop p s in
-    let k = ap sectionKind (c .before .before .before .before .before .pre .2) in
-    section-stops full x information before s p (c .before .before .before .before .before .pre .0) k a refl
-    (head-pass (headChecks 10 seen r) _ refl (c .before .before .before .section-head .ensures) (c .before .before .if1 .left)
-    (pass _ _ refl (head-stop (fieldChecks x information r) _ (c .before .information-fields .ensures x) (c .if2 .taken)))) (c .if2 .taken)
-
-add-two : tie.Need-add-two
-add-two c = search needs
-
-two-requires : tie.Need-two-requires
-two-requires c κs = search needs
-
-add-e : tie.Need-add-e
-add-e c =
-    let s = c .before .before .before .before .before .before .args .s .now in
-    let p = c .before .before .before .before .before .before .args .p in
-    let m = head-room 10 (c .before .before .before .before .before .before .args .seen) s p (c .before .before .before .before .section-head .ensures) (c .before .before .before .if1 .left) in
-    let l : c .two .result ≡ number (bytesAt (drop p s) 2 2) = number-at s p 2 2 (c .two .ensures .0) in
-    omega (arith, m .1)
-
-information-subs-requires : tie.Need-information-subs-requires
-information-subs-requires c κs =
-    let s = c .before .before .before .before .before .before .args .s .now in
-    let p = c .before .before .before .before .before .before .args .p in
-    let m = head-room 10 (c .before .before .before .before .before .before .args .seen) s p (c .before .before .before .before .section-head .ensures) (c .before .before .before .if1 .left) in
-    let l : c .two .result ≡ number (bytesAt (drop p s) 2 2) = number-at s p 2 2 (c .two .ensures .0) in
-    (omega (arith, m .0), omega (arith, m .1), search needs, ap (λ (n : ℕ). p + n) l)
-
-returns-3 : tie.Need-returns-3
-unfolding headChecks
-returns-3 c =
-    λ before a.
-    let s = c .before .before .before .before .before .before .before .args .s .now in
-    let p = c .before .before .before .before .before .before .before .args .p in
-    let x = c .before .before .before .before .before .before .before .args .external in
-    let full = c .before .before .before .before .before .before .before .args .full in
-    let seen = c .before .before .before .before .before .before .before .args .seen in
-    let r = drop p s in
-    let k = ap sectionKind (c .before .before .before .before .before .before .before .pre .2) in
-    let g = section-goes full x information before s p (c .before .before .before .before .before .before .before .pre .0) k a refl
-    (head-pass (headChecks 10 seen r) _ refl (c .before .before .before .before .before .section-head .ensures) (c .before .before .before .before .if1 .left)
-    (pass _ _ refl (head-pass (fieldChecks x information r) _ refl (c .before .before .before .information-fields .ensures x) (c .before .before .if2 .left) (pass _ _ refl none)))) in
-    c .information-subs .ensures ∙ sym (ap (asAnswer sectionRows) g)
+length-read : (c : tie.After-two) → c .two .result ≡ stated (drop (c .before .before .before .before .before .before .args .p) (c .before .before .before .before .before .before .args .s .now))
+length-read c = number-at _ _ 2 2 (c .two .ensures .0)
 
 pub information-at-spec : {M : Type 1} → statement M
 information-at-spec =
     tie.close
     (tie.spec
-    section-head-requires
-    cast-t10
-    returns
-    information-fields-requires
-    cast-t11
-    returns-2
-    add-two
-    two-requires
-    add-e
-    information-subs-requires
-    returns-3)
+    (λ c κs. search needs)
+    (λ c κs. search needs)
+    (λ c before a.
+    let b = c .before .before .before .before in
+    c .refused .ensures
+    ∙ section-stops _ _ information before _ _ (b .pre .0) (ap sectionKind (b .pre .2)) a refl (head (c .before .before) .stop (c .before .if1 .taken)) (c .before .if1 .taken))
+    (λ c κs. let m = room c in (omega arith, search needs))
+    (λ c κs. search needs)
+    (λ c before a.
+    let b = c .before .before .before .before .before .before in
+    c .refused2 .ensures
+    ∙ section-stops _ _ information before _ _ (b .pre .0) (ap sectionKind (b .pre .2)) a refl (fields (c .before .before) .stop (c .before .if2 .taken)) (c .before .if2 .taken))
+    (λ c. search needs)
+    (λ c κs. search needs)
+    (λ c. let m = room (c .before .before .before) in let l = length-read c in omega arith)
+    (λ c κs.
+    let m = room (c .before .before .before) in
+    let l = length-read c in
+    (omega arith, omega arith, search needs, ap (λ (n : ℕ). c .before .before .before .before .before .before .args .p + n) l))
+    (λ c before a.
+    let b = c .before .before .before .before .before .before .before in
+    c .information-subs .ensures
+    ∙ sym (ap (asAnswer sectionRows) (section-goes _ _ information before _ _ (b .pre .0) (ap sectionKind (b .pre .2)) a refl (none-left (passed (fields (c .before .before .before) .left (c .before .before .if2 .left)) refl))))))

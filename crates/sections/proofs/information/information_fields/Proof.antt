@@ -1,44 +1,27 @@
-use Rattle.sections.proofs.Laws.{stop, pass, none, zero-yes, zero-not, at-most, above}
+use mathlib.Core.Bool.{Bool}
+use mathlib.Core.List.{List}
+use lib.ListN.{drop}
+use Rattle.format.specs.Parts.{information}
+use Rattle.format.specs.Reading.{Test, fieldChecks}
+use Rattle.sections.proofs.Laws.{Left, all-left, passed, failed, none-left, zero-yes, zero-not, at-most, above}
 use borrow.Author.Needs.{needs}
 use Rattle.sections.proofs.information.information_fields.Statement.{statement}
 use Rattle.sections.proofs.information.information_fields.Tie as tie
 
-add-two : tie.Need-add-two
-add-two c = search needs
+abbrev Tests : tie.Start → Bool → List Test
+Tests c x = fieldChecks x information (drop (c .args .p) (c .args .s .now))
 
-two-requires : tie.Need-two-requires
-two-requires c κs = search needs
-
-returns : tie.Need-returns
-returns c =
-    λ x.
-    let s = c .before .before .before .args .s .now in
-    let p = c .before .before .before .args .p in
-    stop _ _ (zero-not s p 4 2 (c .before .two .ensures .0) (c .if1 .taken))
-
-add-four : tie.Need-add-four
-add-four c = search needs
-
-four-requires : tie.Need-four-requires
-four-requires c κs = search needs
-
-returns-2 : tie.Need-returns-2
-returns-2 c =
-    λ x.
-    let s = c .before .before .before .before .before .args .s .now in
-    let p = c .before .before .before .before .before .args .p in
-    pass _ _ (zero-yes s p 4 2 (c .before .before .before .two .ensures .0) (c .before .before .if1 .left))
-    (stop _ _ (above s p 6 4 (c .before .four .ensures) 1 (c .if2 .taken)))
-
-returns-3 : tie.Need-returns-3
-returns-3 c =
-    λ x.
-    let s = c .before .before .before .before .before .args .s .now in
-    let p = c .before .before .before .before .before .args .p in
-    pass _ _ (zero-yes s p 4 2 (c .before .before .before .two .ensures .0) (c .before .before .if1 .left))
-    (pass _ _ (at-most s p 6 4 (c .before .four .ensures) 1 (c .if2 .left))
-    (none))
+left-1 : (c : tie.Else1) (x : Bool) → Left (Tests (c .before .before .before) x) (drop 1 (Tests (c .before .before .before) x))
+left-1 c x = passed (all-left _) (zero-yes _ _ 4 2 (c .before .two .ensures .0) (c .if1 .left))
 
 pub information-fields-spec : {M : Type 1} → statement M
 information-fields-spec =
-    tie.close (tie.spec add-two two-requires returns add-four four-requires returns-2 returns-3)
+    tie.close
+    (tie.spec
+    (λ c. search needs)
+    (λ c κs. search needs)
+    (λ c x. failed (all-left _) (zero-not _ _ 4 2 (c .before .two .ensures .0) (c .if1 .taken)))
+    (λ c. search needs)
+    (λ c κs. search needs)
+    (λ c x. failed (left-1 (c .before .before) x) (above _ _ 6 4 (c .before .four .ensures) 1 (c .if2 .taken)))
+    (λ c x. none-left (passed (left-1 (c .before .before) x) (at-most _ _ 6 4 (c .before .four .ensures) 1 (c .if2 .left)))))

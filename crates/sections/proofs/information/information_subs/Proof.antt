@@ -1,17 +1,20 @@
 -- The loop over the subsections of section 14: what is read from here is what is read from the first one on.
 use mathlib.Core.List.{[]}
-use Rattle.sections.proofs.InformationLaws.{kind-one, kind-two, turn-on, information-rest, ends-there, ends-missing}
-use Rattle.sections.proofs.Subs.{refused-told, refused-same, refused-then, loop-stops, loop-room, loop-on}
-use Rattle.sections.specs.Loops.{InformationRead}
-use Rattle.sections.specs.Refusals.{sectionRows}
-use Rattle.format.specs.Parts.{information, protection, dates}
-use borrow.Author.Needs.{needs}
 use mathlib.Core.Logic.{⊎-elim}
-use borrow.Author.Tests.{not-true, not-false}
+use mathlib.Core.Path.{_≡_, refl, sym, _∙_}
+use Prim.Native.Nat.{_+_, _-_, _≤_}
 use native.Mathlib.Omega.{arith}
-use Prim.Native.Nat.{_-_, _≤_}
-use mathlib.Core.Bool.{Bool, not, _||_, or-true, or-false}
-use mathlib.Core.Path.{refl, sym, _∙_, ap, ap₂}
+use lib.ListN.{drop}
+use borrow.Author.Tests.{not-true, not-false}
+use borrow.Author.Needs.{needs}
+use Rattle.format.specs.Bytes.{number, bytesAt}
+use Rattle.format.specs.Parts.{information}
+use Rattle.sections.specs.Loops.{InformationRead}
+use Rattle.sections.specs.Refusals.{subRefusal, sectionRows}
+use Rattle.sections.proofs.Heads.{section-rest}
+use Rattle.sections.proofs.InformationLaws.{turn-one, turn-two, ends-there, ends-missing}
+use Rattle.sections.proofs.Laws.{not-asked, asked}
+use Rattle.sections.proofs.Subs.{refused-told, refused-same, refused-then, loop-stops, loop-room}
 use Rattle.sections.proofs.information.information_subs.Statement.{statement}
 use Rattle.sections.proofs.information.information_subs.Tie as tie
 
@@ -21,180 +24,17 @@ Inv-loop s p e external full q₀ n₀ protected₀ dated₀ q n protected dated
 abbrev μ-loop : tie.MeasureT-loop
 μ-loop s p e external full q₀ n₀ protected₀ dated₀ q n protected dated = e - q
 
-add-q : tie.Need-add-q Inv-loop μ-loop
-add-q c = search needs
+-- the first refusal of the subsection at q, 0 where it has none
+told : (c : tie.After-information-sub Inv-loop μ-loop) → let b = c .before .before .before .before in let q = c .before .before .loop .q in
+    c .information-sub .result ≡ subRefusal (b .args .external) information (c .before .before .loop .inv .done) (b .args .e - q) (drop q (b .args .s .now))
+told c = let w = c .before .before .loop .inv in c .information-sub .ensures (w .done) (w .protections) (w .dateds)
 
-loop-holds : tie.Need-loop-holds Inv-loop μ-loop
-loop-holds c = record { done = []; protections = refl; dateds = refl; unmasked = refl; rows = refl; few = omega arith; ends = search needs; same = refl }
-
-sub-information-sub : tie.Need-sub-information-sub Inv-loop μ-loop
-sub-information-sub c = search needs
-
-information-sub-requires : tie.Need-information-sub-requires Inv-loop μ-loop
-information-sub-requires c κs =
-    let s = c .before .before .before .args .s .now in
-    let p = c .before .before .before .args .p in
-    let e = c .before .before .before .args .e in
-    let x = c .before .before .before .args .external in
-    let q = c .before .loop .q in
-    let w = c .before .loop .inv in
-    (omega arith, search needs)
-
-cast-t13 : tie.Need-cast-t13 Inv-loop μ-loop
-cast-t13 c =
-    let s = c .before .before .before .before .before .args .s .now in
-    let p = c .before .before .before .before .before .args .p in
-    let e = c .before .before .before .before .before .args .e in
-    let x = c .before .before .before .before .before .args .external in
-    let q = c .before .before .before .loop .q in
-    let w = c .before .before .before .loop .inv in
-    search needs
-
-returns : tie.Need-returns Inv-loop μ-loop
-returns c =
-    let s = c .before .before .before .before .before .args .s .now in
-    let p = c .before .before .before .before .before .args .p in
-    let e = c .before .before .before .before .before .args .e in
-    let x = c .before .before .before .before .before .args .external in
-    let q = c .before .before .before .loop .q in
-    let w = c .before .before .before .loop .inv in
-    let h = c .before .before .loop-test .taken in
-    let f = c .before .information-sub .ensures (w .done) (w .protections) (w .dateds) in
-    refused-told sectionRows
-    (refused-same (information-rest (c .before .before .before .before .before .args .full) x s p e (c .before .before .before .before .before .pre .0) (c .before .before .before .before .before .pre .3))
-    (refused-then _ (refused-same (sym (w .same)) (loop-stops s x information (w .done) q e h f (c .if1 .taken)))))
-
-two-requires : tie.Need-two-requires Inv-loop μ-loop
-two-requires c κs =
-    let s = c .before .before .before .before .before .args .s .now in
-    let p = c .before .before .before .before .before .args .p in
-    let e = c .before .before .before .before .before .args .e in
-    let x = c .before .before .before .before .before .args .external in
-    let q = c .before .before .before .loop .q in
-    let w = c .before .before .before .loop .inv in
-    let h = c .before .before .loop-test .taken in
-    let f = c .before .information-sub .ensures (w .done) (w .protections) (w .dateds) in
-    let r = loop-room s x information (w .done) q e h f (c .if1 .left) in
-    omega (arith, r .0, r .1)
-
-add-n : tie.Need-add-n Inv-loop μ-loop
-add-n c =
-    let s = c .before .before .before .before .before .before .before .args .s .now in
-    let p = c .before .before .before .before .before .before .before .args .p in
-    let e = c .before .before .before .before .before .before .before .args .e in
-    let x = c .before .before .before .before .before .before .before .args .external in
-    let q = c .before .before .before .before .before .loop .q in
-    let w = c .before .before .before .before .before .loop .inv in
-    let h = c .before .before .before .before .loop-test .taken in
-    let f = c .before .before .before .information-sub .ensures (w .done) (w .protections) (w .dateds) in
-    let r = loop-room s x information (w .done) q e h f (c .before .before .if1 .left) in
-    omega (arith, w .few)
-
-add-two : tie.Need-add-two Inv-loop μ-loop
-add-two c =
-    let s = c .before .before .before .before .before .before .before .args .s .now in
-    let p = c .before .before .before .before .before .before .before .args .p in
-    let e = c .before .before .before .before .before .before .before .args .e in
-    let x = c .before .before .before .before .before .before .before .args .external in
-    let q = c .before .before .before .before .before .loop .q in
-    let w = c .before .before .before .before .before .loop .inv in
-    let h = c .before .before .before .before .loop-test .taken in
-    let f = c .before .before .before .information-sub .ensures (w .done) (w .protections) (w .dateds) in
-    let r = loop-room s x information (w .done) q e h f (c .before .before .if1 .left) in
-    omega (arith, r .0, r .1)
-
-two-requires-2 : tie.Need-two-requires-2 Inv-loop μ-loop
-two-requires-2 c κs =
-    let s = c .before .before .before .before .before .before .before .args .s .now in
-    let p = c .before .before .before .before .before .before .before .args .p in
-    let e = c .before .before .before .before .before .before .before .args .e in
-    let x = c .before .before .before .before .before .before .before .args .external in
-    let q = c .before .before .before .before .before .loop .q in
-    let w = c .before .before .before .before .before .loop .inv in
-    let h = c .before .before .before .before .loop-test .taken in
-    let f = c .before .before .before .information-sub .ensures (w .done) (w .protections) (w .dateds) in
-    let r = loop-room s x information (w .done) q e h f (c .before .before .if1 .left) in
-    omega (arith, r .0, r .1)
-
-add-q-2 : tie.Need-add-q-2 Inv-loop μ-loop
-add-q-2 c =
-    let s = c .before .before .before .before .before .before .before .before .args .s .now in
-    let p = c .before .before .before .before .before .before .before .before .args .p in
-    let e = c .before .before .before .before .before .before .before .before .args .e in
-    let x = c .before .before .before .before .before .before .before .before .args .external in
-    let q = c .before .before .before .before .before .before .loop .q in
-    let w = c .before .before .before .before .before .before .loop .inv in
-    let h = c .before .before .before .before .before .loop-test .taken in
-    let f = c .before .before .before .before .information-sub .ensures (w .done) (w .protections) (w .dateds) in
-    let r = loop-room s x information (w .done) q e h f (c .before .before .before .if1 .left) in
-    omega (arith, r .0, r .1, c .two2 .ensures .0)
-
-loop-less : tie.Need-loop-less Inv-loop μ-loop
-loop-less c =
-    let s = c .before .before .before .before .before .before .before .before .args .s .now in
-    let p = c .before .before .before .before .before .before .before .before .args .p in
-    let e = c .before .before .before .before .before .before .before .before .args .e in
-    let x = c .before .before .before .before .before .before .before .before .args .external in
-    let q = c .before .before .before .before .before .before .loop .q in
-    let w = c .before .before .before .before .before .before .loop .inv in
-    let h = c .before .before .before .before .before .loop-test .taken in
-    let f = c .before .before .before .before .information-sub .ensures (w .done) (w .protections) (w .dateds) in
-    let r = loop-room s x information (w .done) q e h f (c .before .before .before .if1 .left) in
-    omega (arith, r .0, r .1, c .two2 .ensures .0)
-
-loop-again : tie.Need-loop-again Inv-loop μ-loop
-loop-again c =
-    let s = c .before .before .before .before .before .before .before .before .args .s .now in
-    let p = c .before .before .before .before .before .before .before .before .args .p in
-    let e = c .before .before .before .before .before .before .before .before .args .e in
-    let x = c .before .before .before .before .before .before .before .before .args .external in
-    let q = c .before .before .before .before .before .before .loop .q in
-    let w = c .before .before .before .before .before .before .loop .inv in
-    let h = c .before .before .before .before .before .loop-test .taken in
-    let f = c .before .before .before .before .information-sub .ensures (w .done) (w .protections) (w .dateds) in
-    let r = loop-room s x information (w .done) q e h f (c .before .before .before .if1 .left) in
-    let t = c .two2 .result in
-    let l = c .two2 .ensures .0 in
-    let g = loop-on s x information (w .done) q e h f (c .before .before .before .if1 .left) l in
-    let r′ : (4 ≤ t) × (t ≤ e - q) = (omega (arith, r .0), omega (arith, r .1)) in
-    let tag = c .before .before .two .ensures .0 in
-    ⊎-elim
-    (λ v. turn-on protection w h g r′ (kind-one _ _ (g .told) (sym tag ∙ v .0 .taken)) (or-true (c .before .before .before .before .before .before .loop .protected) ∙ sym (v .1)) (or-false (c .before .before .before .before .before .before .loop .dated) ∙ sym (v .2)) refl)
-    (λ v. turn-on dates w h g r′ (kind-two _ _ (g .told) (λ y. v .0 .left (tag ∙ y))) (or-false (c .before .before .before .before .before .before .loop .protected) ∙ sym (v .1)) (or-true (c .before .before .before .before .before .before .loop .dated) ∙ sym (v .2)) refl)
-    (c .before .if2 .came)
-
-returns-2 : tie.Need-returns-2 Inv-loop μ-loop
-returns-2 c =
-    let s = c .before .before .before .before .args .s .now in
-    let p = c .before .before .before .before .args .p in
-    let e = c .before .before .before .before .args .e in
-    let x = c .before .before .before .before .args .external in
-    let q = c .before .before .loop .q in
-    let w = c .before .before .loop .inv in
-    ends-there (c .before .before .before .before .args .full) w (c .before .loop-test .left) (c .before .before .before .before .pre .0) (c .before .before .before .before .pre .3) (ap (λ (b : Bool). not b || c .before .before .loop .protected) (not-true (c .before .before .before .before .args .full) (c .if3 .taken)))
-
-cast-t16 : tie.Need-cast-t16 Inv-loop μ-loop
-cast-t16 c = search needs
-
-returns-3 : tie.Need-returns-3 Inv-loop μ-loop
-returns-3 c =
-    let s = c .before .before .before .before .before .args .s .now in
-    let p = c .before .before .before .before .before .args .p in
-    let e = c .before .before .before .before .before .args .e in
-    let x = c .before .before .before .before .before .args .external in
-    let q = c .before .before .before .loop .q in
-    let w = c .before .before .before .loop .inv in
-    ends-missing (c .before .before .before .before .before .args .full) w (c .before .before .loop-test .left) (c .before .before .before .before .before .pre .0) (c .before .before .before .before .before .pre .3) (ap₂ (λ (a b : Bool). not a || b) (not-false (c .before .before .before .before .before .args .full) (c .before .if3 .left)) (not-true (c .before .before .before .loop .protected) (c .if4 .taken)))
-
-returns-4 : tie.Need-returns-4 Inv-loop μ-loop
-returns-4 c =
-    let s = c .before .before .before .before .before .args .s .now in
-    let p = c .before .before .before .before .before .args .p in
-    let e = c .before .before .before .before .before .args .e in
-    let x = c .before .before .before .before .before .args .external in
-    let q = c .before .before .before .loop .q in
-    let w = c .before .before .before .loop .inv in
-    ends-there (c .before .before .before .before .before .args .full) w (c .before .before .loop-test .left) (c .before .before .before .before .before .pre .0) (c .before .before .before .before .before .pre .3) (ap₂ (λ (a b : Bool). not a || b) (not-false (c .before .before .before .before .before .args .full) (c .before .if3 .left)) (not-false (c .before .before .before .loop .protected) (c .if4 .left)))
+-- a subsection without one ends within the section
+room : (c : tie.Else1 Inv-loop μ-loop) → let b = c .before .before .before .before .before in let q = c .before .before .before .loop .q in
+    (4 ≤ number (bytesAt (b .args .s .now) (q + 2) 2)) × (number (bytesAt (b .args .s .now) (q + 2) 2) ≤ b .args .e - q)
+room c =
+    let b = c .before .before .before .before .before in
+    loop-room (b .args .s .now) (b .args .external) information (c .before .before .before .loop .inv .done) (c .before .before .before .loop .q) (b .args .e) (c .before .before .loop-test .taken) (told (c .before)) (c .if1 .left)
 
 pub information-subs-spec : {M : Type 1} → statement M
 information-subs-spec =
@@ -202,20 +42,39 @@ information-subs-spec =
     (tie.spec
     Inv-loop
     μ-loop
-    add-q
-    loop-holds
-    sub-information-sub
-    information-sub-requires
-    cast-t13
-    returns
-    two-requires
-    add-n
-    add-two
-    two-requires-2
-    add-q-2
-    loop-less
-    loop-again
-    returns-2
-    cast-t16
-    returns-3
-    returns-4)
+    (λ c. search needs)
+    (λ c. record { done = []; protections = refl; dateds = refl; unmasked = refl; rows = refl; few = omega arith; ends = search needs; same = refl })
+    (λ c. search needs)
+    (λ c κs. (omega (arith, c .before .loop .inv .ends), search needs))
+    (λ c κs. omega (arith, c .before .before .before .loop .inv .ends))
+    (λ c.
+    let b = c .before .before .before .before .before .before in
+    let w = c .before .before .before .before .loop .inv in
+    c .refused .ensures
+    ∙ refused-told sectionRows
+    (refused-same (section-rest (b .args .full) _ information (b .args .s .now) _ _ (b .pre .0) (b .pre .3))
+    (refused-then _ (refused-same (sym (w .same)) (loop-stops _ _ information (w .done) _ _ (c .before .before .before .loop-test .taken) (told (c .before .before)) (c .before .if1 .taken))))))
+    (λ c κs. let r = room c in omega (arith, r))
+    (λ c. let r = room (c .before .before) in omega (arith, c .before .before .before .before .before .loop .inv .few))
+    (λ c. let r = room (c .before .before) in omega (arith, r))
+    (λ c κs. let r = room (c .before .before) in omega (arith, r))
+    (λ c. let r = room (c .before .before .before) in omega (arith, r, c .two2 .ensures .0))
+    (λ c. let r = room (c .before .before .before) in omega (arith, r, c .two2 .ensures .0))
+    (λ c.
+    let w = c .before .before .before .before .before .before .loop .inv in
+    let h = c .before .before .before .before .before .loop-test .taken in
+    let f = told (c .before .before .before .before) in
+    let z = c .before .before .before .if1 .left in
+    let l = c .two2 .ensures .0 in
+    let tag = c .before .before .two .ensures .0 in
+    ⊎-elim (λ v. turn-one w h f z l tag (v .0 .taken) (v .1) (v .2)) (λ v. turn-two w h f z l tag (v .0 .left) (v .1) (v .2)) (c .before .if2 .came))
+    (λ c.
+    let b = c .before .before .before .before in
+    ends-there (b .args .full) (c .before .before .loop .inv) (c .before .loop-test .left) (b .pre .0) (b .pre .3) (not-asked (c .before .before .loop .protected) (not-true (b .args .full) (c .if3 .taken))))
+    (λ c. search needs)
+    (λ c.
+    let b = c .before .before .before .before .before in
+    ends-missing (b .args .full) (c .before .before .before .loop .inv) (c .before .before .loop-test .left) (b .pre .0) (b .pre .3) (asked (not-false (b .args .full) (c .before .if3 .left)) (not-true (c .before .before .before .loop .protected) (c .if4 .taken))))
+    (λ c.
+    let b = c .before .before .before .before .before in
+    ends-there (b .args .full) (c .before .before .before .loop .inv) (c .before .before .loop-test .left) (b .pre .0) (b .pre .3) (asked (not-false (b .args .full) (c .before .if3 .left)) (not-false (c .before .before .before .loop .protected) (c .if4 .left)))))

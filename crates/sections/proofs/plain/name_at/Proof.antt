@@ -1,56 +1,29 @@
 -- Section 13: its head and its length.
-use Rattle.sections.specs.Refusals.{headChecks}
-use Rattle.sections.proofs.Laws.{stop, pass, none, head-stop, head-pass, equal, unequal}
-use lib.ListN.{drop}
 use mathlib.Core.Path.{refl}
+use mathlib.Core.Bool.{Bool}
+use Prim.Native.Nat.{ℕ}
+use lib.ListN.{drop}
 use borrow.Author.Needs.{needs}
+use Rattle.format.specs.Parts.{name}
+use Rattle.format.specs.Reading.{sectionChecks}
+use Rattle.sections.proofs.Laws.{Left, passed, failed, none-left, section-head, equal, unequal}
 use Rattle.sections.proofs.plain.name_at.Statement.{statement}
 use Rattle.sections.proofs.plain.name_at.Tie as tie
 
-section-head-requires : tie.Need-section-head-requires
-section-head-requires c κs = search needs
+-- the first k tests of the section have passed
+abbrev Past : ℕ → tie.Start → Type 0
+Past k c = (x repeated : Bool) → let cs = sectionChecks x name (c .args .seen) repeated (drop (c .args .p) (c .args .s .now)) in Left cs (drop k cs)
 
-returns : tie.Need-returns
-unfolding headChecks
-returns c =
-    λ x′ repeated.
-    let s = c .before .before .before .args .s .now in
-    let p = c .before .before .before .args .p in
-    let seen = c .before .before .before .args .seen in
-    let r = drop p s in
-    let h = c .before .section-head .ensures in
-    head-stop (headChecks 68 seen r) _ h (c .if1 .taken)
-
-add-two : tie.Need-add-two
-add-two c = search needs
-
-two-requires : tie.Need-two-requires
-two-requires c κs = search needs
-
-returns-2 : tie.Need-returns-2
-unfolding headChecks
-returns-2 c =
-    λ x′ repeated.
-    let s = c .before .before .before .before .before .args .s .now in
-    let p = c .before .before .before .before .before .args .p in
-    let seen = c .before .before .before .before .before .args .seen in
-    let r = drop p s in
-    let h = c .before .before .before .section-head .ensures in
-    head-pass (headChecks 68 seen r) _ refl h (c .before .before .if1 .left)
-    (stop _ _ (unequal s p 2 2 (c .before .two .ensures .0) 68 (c .if2 .taken)))
-
-returns-3 : tie.Need-returns-3
-unfolding headChecks
-returns-3 c =
-    λ x′ repeated.
-    let s = c .before .before .before .before .before .args .s .now in
-    let p = c .before .before .before .before .before .args .p in
-    let seen = c .before .before .before .before .before .args .seen in
-    let r = drop p s in
-    let h = c .before .before .before .section-head .ensures in
-    head-pass (headChecks 68 seen r) _ refl h (c .before .before .if1 .left)
-    (pass _ _ (equal s p 2 2 (c .before .two .ensures .0) 68 (c .if2 .left)) (pass _ _ refl none))
+past-1 : (c : tie.Else1) → Past 3 (c .before .before .before)
+past-1 c x repeated = section-head 68 _ _ _ (c .before .section-head .ensures) .left (c .if1 .left)
 
 pub name-at-spec : {M : Type 1} → statement M
 name-at-spec =
-    tie.close (tie.spec section-head-requires returns add-two two-requires returns-2 returns-3)
+    tie.close
+    (tie.spec
+    (λ c κs. search needs)
+    (λ c x repeated. section-head 68 _ _ _ (c .before .section-head .ensures) .stop (c .if1 .taken))
+    (λ c. search needs)
+    (λ c κs. search needs)
+    (λ c x repeated. failed (past-1 (c .before .before) x repeated) (unequal _ _ 2 2 (c .before .two .ensures .0) 68 (c .if2 .taken)))
+    (λ c x repeated. none-left (passed (passed (past-1 (c .before .before) x repeated) (equal _ _ 2 2 (c .before .two .ensures .0) 68 (c .if2 .left))) refl)))

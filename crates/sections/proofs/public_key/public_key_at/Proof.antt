@@ -1,231 +1,98 @@
 -- Section 11: its head, its inner lengths, its fields.
 use mathlib.Core.Path.{_≡_, refl, ap₂, _∙_}
-use mathlib.Core.Bool.{false}
+use mathlib.Core.Bool.{Bool, false}
 use mathlib.Core.List.{List, [], _∷_}
 use Prim.Native.Nat.{ℕ, _+_, _≤_}
 use native.Mathlib.Omega.{arith}
 use lib.ListN.{length, drop}
+use borrow.Author.Needs.{needs}
 use Rattle.format.specs.Bytes.{number, bytesAt}
 use Rattle.format.specs.Parts.{publicKey}
 use Rattle.format.specs.Rules.{checks}
-use Rattle.format.specs.Reading.{partIn}
-use Rattle.sections.specs.Refusals.{firstRefusal, headChecks}
-use Rattle.sections.proofs.Laws.{stop, pass, head-stop, head-pass, pass-last, zero-yes, zero-not, number-at}
-use Rattle.sections.proofs.Heads.{head-room}
-use Rattle.sections.proofs.KeyLaws.{made-yes, made-not, exponent-at, modulus-at, flags-at}
-use borrow.Author.Needs.{needs}
+use Rattle.format.specs.Reading.{stated, partIn, partSlots, located, sectionChecks}
+use Rattle.sections.specs.Refusals.{firstRefusal}
+use Rattle.sections.proofs.Laws.{Left, passed, failed, section-head, head-room, pass-last, zero-yes, zero-not, number-at}
+use Rattle.sections.proofs.KeyLaws.{made-yes, made-not, exponent-at, modulus-at, flags-at, exponent-length, modulus-length}
 use Rattle.sections.proofs.public_key.public_key_at.Statement.{statement}
 use Rattle.sections.proofs.public_key.public_key_at.Tie as tie
 
-section-head-requires : tie.Need-section-head-requires
-section-head-requires c κs = search needs
+-- the first k tests of the section have passed
+abbrev Past : ℕ → tie.Start → Type 0
+Past k c = (x repeated : Bool) → let cs = sectionChecks x publicKey (c .args .seen) repeated (drop (c .args .p) (c .args .s .now)) in Left cs (drop k cs)
 
-returns : tie.Need-returns
-unfolding headChecks
-returns c =
-    λ x′ repeated.
-    let s = c .before .before .before .args .s .now in
-    let p = c .before .before .before .args .p in
-    let seen = c .before .before .before .args .seen in
-    let r = drop p s in
-    let h = c .before .section-head .ensures in
-    head-stop (headChecks 16 seen r) _ h (c .if1 .taken)
+-- after the head its 16 bytes are there, and all that it states
+room : (c : tie.Else1) → (16 ≤ stated (drop (c .before .before .before .args .p) (c .before .before .before .args .s .now))) × (c .before .before .before .args .p + stated (drop (c .before .before .before .args .p) (c .before .before .before .args .s .now)) ≤ length (c .before .before .before .args .s .now))
+room c =
+    let m = head-room 16 _ (c .before .before .before .args .s .now) (c .before .before .before .args .p) (c .before .section-head .ensures) (c .if1 .left) in
+    let h = c .before .before .before .pre in
+    (m .0, omega (arith, m .0, m .1, h))
 
-add-two : tie.Need-add-two
-add-two c = search needs
+-- after the test of the inner lengths the fields are there
+whole : (c : tie.Else2) → c .before .before .before .before .before .before .before .args .p + 16 + c .before .before .before .two .result + c .before .before .two2 .result ≤ length (c .before .before .before .before .before .before .before .args .s .now)
+whole c =
+    let m = room (c .before .before .before .before) in
+    let l = number-at _ _ 2 2 (c .before .two3 .ensures .0) in
+    omega (arith, m .1, c .if2 .left)
 
-two-requires : tie.Need-two-requires
-two-requires c κs =
-    let s = c .before .before .before .args .s .now in
-    let p = c .before .before .before .args .p in
-    let m = head-room 16 (c .before .before .before .args .seen) s p (c .before .section-head .ensures) (c .if1 .left) in
-    omega (arith, m .0, m .1)
+past-1 : (c : tie.Else1) → Past 3 (c .before .before .before)
+past-1 c x repeated = section-head 16 _ _ _ (c .before .section-head .ensures) .left (c .if1 .left)
 
-add-two-2 : tie.Need-add-two-2
-add-two-2 c = search needs
+past-2 : (c : tie.Else2) → Past 4 (c .before .before .before .before .before .before .before)
+past-2 c x repeated =
+    passed (past-1 (c .before .before .before .before) x repeated) (made-yes _ _ _ _ (c .before .before .before .two .ensures .0) (c .before .before .two2 .ensures .0) _ (c .before .two3 .ensures .0) (c .if2 .left))
 
-two-requires-2 : tie.Need-two-requires-2
-two-requires-2 c κs =
-    let s = c .before .before .before .before .args .s .now in
-    let p = c .before .before .before .before .args .p in
-    let m = head-room 16 (c .before .before .before .before .args .seen) s p (c .before .before .section-head .ensures) (c .before .if1 .left) in
-    omega (arith, m .0, m .1)
+past-3 : (c : tie.Else3) → Past 5 (c .before .before .before .before .before .before .before .before .before)
+past-3 c x repeated = passed (past-2 (c .before .before) x repeated) (zero-yes _ _ 4 2 (c .before .two4 .ensures .0) (c .if3 .left))
 
-add-if2 : tie.Need-add-if2
-add-if2 c = search needs
-
-add-if2-2 : tie.Need-add-if2-2
-add-if2-2 c = search needs
-
-add-two-3 : tie.Need-add-two-3
-add-two-3 c = search needs
-
-two-requires-3 : tie.Need-two-requires-3
-two-requires-3 c κs = search needs
-
-returns-2 : tie.Need-returns-2
-unfolding headChecks
-returns-2 c =
-    λ x′ repeated.
-    let s = c .before .before .before .before .before .before .before .args .s .now in
-    let p = c .before .before .before .before .before .before .before .args .p in
-    let seen = c .before .before .before .before .before .before .before .args .seen in
-    let r = drop p s in
-    let h = c .before .before .before .before .before .section-head .ensures in
-    let x = c .before .before .before .two .result in
-    let y = c .before .before .two2 .result in
-    let ex = c .before .before .before .two .ensures .0 in
-    let ey = c .before .before .two2 .ensures .0 in
-    let el = c .before .two3 .ensures .0 in
-    head-pass (headChecks 16 seen r) _ refl h (c .before .before .before .before .if1 .left)
-    (stop _ _ (made-not s p x y ex ey _ el (c .if2 .taken)))
-
-add-two-4 : tie.Need-add-two-4
-add-two-4 c = search needs
-
-two-requires-4 : tie.Need-two-requires-4
-two-requires-4 c κs =
-    let s = c .before .before .before .before .before .before .before .args .s .now in
-    let p = c .before .before .before .before .before .before .before .args .p in
-    let m = head-room 16 (c .before .before .before .before .before .before .before .args .seen) s p (c .before .before .before .before .before .section-head .ensures) (c .before .before .before .before .if1 .left) in
-    omega (arith, m .0, m .1)
-
-returns-3 : tie.Need-returns-3
-unfolding headChecks
-returns-3 c =
-    λ x′ repeated.
-    let s = c .before .before .before .before .before .before .before .before .before .args .s .now in
-    let p = c .before .before .before .before .before .before .before .before .before .args .p in
-    let seen = c .before .before .before .before .before .before .before .before .before .args .seen in
-    let r = drop p s in
-    let h = c .before .before .before .before .before .before .before .section-head .ensures in
-    let x = c .before .before .before .before .before .two .result in
-    let y = c .before .before .before .before .two2 .result in
-    let ex = c .before .before .before .before .before .two .ensures .0 in
-    let ey = c .before .before .before .before .two2 .ensures .0 in
-    let el = c .before .before .before .two3 .ensures .0 in
-    head-pass (headChecks 16 seen r) _ refl h (c .before .before .before .before .before .before .if1 .left)
-    (pass _ _ (made-yes s p x y ex ey _ el (c .before .before .if2 .left))
-    (stop _ _ (zero-not s p 4 2 (c .before .two4 .ensures .0) (c .if3 .taken))))
-
-add-modulus-at : tie.Need-add-modulus-at
-add-modulus-at c = search needs
-
-add-modulus-at-2 : tie.Need-add-modulus-at-2
-add-modulus-at-2 c = search needs
-
-add-flags-at : tie.Need-add-flags-at
-add-flags-at c = search needs
-
-add-two-5 : tie.Need-add-two-5
-add-two-5 c = search needs
-
-two-requires-5 : tie.Need-two-requires-5
-two-requires-5 c κs =
-    let s = c .before .before .before .before .before .before .before .before .before .args .s .now in
-    let p = c .before .before .before .before .before .before .before .before .before .args .p in
-    let m = head-room 16 (c .before .before .before .before .before .before .before .before .before .args .seen) s p (c .before .before .before .before .before .before .before .section-head .ensures) (c .before .before .before .before .before .before .if1 .left) in
-    let l : c .before .before .before .two3 .result ≡ number (bytesAt (drop p s) 2 2) = number-at s p 2 2 (c .before .before .before .two3 .ensures .0) in
-    let fits : p + 16 + c .before .before .before .before .before .two .result + c .before .before .before .before .two2 .result ≤ length s = omega (arith, m .1, c .before .before .if2 .left) in
-    omega arith
-
-four-requires : tie.Need-four-requires
-four-requires c κs =
-    let s = c .before .before .before .before .before .before .before .before .before .before .args .s .now in
-    let p = c .before .before .before .before .before .before .before .before .before .before .args .p in
-    let m = head-room 16 (c .before .before .before .before .before .before .before .before .before .before .args .seen) s p (c .before .before .before .before .before .before .before .before .section-head .ensures) (c .before .before .before .before .before .before .before .if1 .left) in
-    let l : c .before .before .before .before .two3 .result ≡ number (bytesAt (drop p s) 2 2) = number-at s p 2 2 (c .before .before .before .before .two3 .ensures .0) in
-    let fits : p + 16 + c .before .before .before .before .before .before .two .result + c .before .before .before .before .before .two2 .result ≤ length s = omega (arith, m .1, c .before .before .before .if2 .left) in
-    omega arith
-
-add-key-fields : tie.Need-add-key-fields
-add-key-fields c = search needs
-
-sub-key-fields : tie.Need-sub-key-fields
-sub-key-fields c = search needs
-
-part-key-fields-start : tie.Need-part-key-fields-start
-part-key-fields-start c = search needs
-
-part-key-fields-end : tie.Need-part-key-fields-end
-part-key-fields-end c =
-    let s = c .before .before .before .before .before .before .before .before .before .before .before .args .s .now in
-    let p = c .before .before .before .before .before .before .before .before .before .before .before .args .p in
-    let m = head-room 16 (c .before .before .before .before .before .before .before .before .before .before .before .args .seen) s p (c .before .before .before .before .before .before .before .before .before .section-head .ensures) (c .before .before .before .before .before .before .before .before .if1 .left) in
-    let l : c .before .before .before .before .before .two3 .result ≡ number (bytesAt (drop p s) 2 2) = number-at s p 2 2 (c .before .before .before .before .before .two3 .ensures .0) in
-    let fits : p + 16 + c .before .before .before .before .before .before .before .two .result + c .before .before .before .before .before .before .two2 .result ≤ length s = omega (arith, m .1, c .before .before .before .before .if2 .left) in
-    omega arith
-
-sub-key-fields-2 : tie.Need-sub-key-fields-2
-sub-key-fields-2 c = search needs
-
-part-key-fields-start-2 : tie.Need-part-key-fields-start-2
-part-key-fields-start-2 c = search needs
-
-part-key-fields-end-2 : tie.Need-part-key-fields-end-2
-part-key-fields-end-2 c =
-    let s = c .before .before .before .before .before .before .before .before .before .before .before .before .args .s .now in
-    let p = c .before .before .before .before .before .before .before .before .before .before .before .before .args .p in
-    let m = head-room 16 (c .before .before .before .before .before .before .before .before .before .before .before .before .args .seen) s p (c .before .before .before .before .before .before .before .before .before .before .section-head .ensures) (c .before .before .before .before .before .before .before .before .before .if1 .left) in
-    let l : c .before .before .before .before .before .before .two3 .result ≡ number (bytesAt (drop p s) 2 2) = number-at s p 2 2 (c .before .before .before .before .before .before .two3 .ensures .0) in
-    let fits : p + 16 + c .before .before .before .before .before .before .before .before .two .result + c .before .before .before .before .before .before .before .two2 .result ≤ length s = omega (arith, m .1, c .before .before .before .before .before .if2 .left) in
-    omega arith
-
-key-fields-requires : tie.Need-key-fields-requires
-key-fields-requires c κs = search needs
-
-returns-4 : tie.Need-returns-4
-unfolding headChecks bytesAt
-returns-4 c =
-    λ x′ repeated.
+-- the rules on the fields are left, and they are what `key_fields` tested
+last : tie.Need-returns-4
+unfolding bytesAt
+last c x repeated =
     let s = c .before .before .before .before .before .before .before .before .before .before .before .before .before .before .args .s .now in
     let p = c .before .before .before .before .before .before .before .before .before .before .before .before .before .before .args .p in
-    let seen = c .before .before .before .before .before .before .before .before .before .before .before .before .before .before .args .seen in
     let r = drop p s in
-    let h = c .before .before .before .before .before .before .before .before .before .before .before .before .section-head .ensures in
-    let x = c .before .before .before .before .before .before .before .before .before .before .two .result in
-    let y = c .before .before .before .before .before .before .before .before .before .two2 .result in
     let ex = c .before .before .before .before .before .before .before .before .before .before .two .ensures .0 in
     let ey = c .before .before .before .before .before .before .before .before .before .two2 .ensures .0 in
-    let el = c .before .before .before .before .before .before .before .before .two3 .ensures .0 in
-    head-pass (headChecks 16 seen r) _ refl h (c .before .before .before .before .before .before .before .before .before .before .before .if1 .left)
-    (pass _ _ (made-yes s p x y ex ey _ el (c .before .before .before .before .before .before .before .if2 .left))
-    (pass _ _ (zero-yes s p 4 2 (c .before .before .before .before .before .before .two4 .ensures .0) (c .before .before .before .before .before .if3 .left))
-    (pass-last (checks x′ publicKey (partIn publicKey r .fields)) _ refl
-    (c .key-fields .ensures (bytesAt r 8 2) (bytesAt r (12 + number (bytesAt r 6 2) + number (bytesAt r 10 2)) 4) (number-at s p 8 2 (c .before .before .before .before .two5 .ensures .0)) (flags-at s p x y ex ey (c .before .before .before .four .ensures))
-    ∙ ap₂ (λ (e m : List ℕ). firstRefusal (checks false publicKey (bytesAt r 8 2 ∷ e ∷ m ∷ bytesAt r (12 + number (bytesAt r 6 2) + number (bytesAt r 10 2)) 4 ∷ [])))
-    (exponent-at s p x y ex ey) (modulus-at s p x y ex ey)))))
+    let m = whole (c .before .before .before .before .before .before .before) in
+    past-3 (c .before .before .before .before .before) x repeated .same _
+    (pass-last (located (partSlots publicKey r) (checks x publicKey (partIn publicKey r .fields))) _ refl
+    (c .key-fields .ensures r (bytesAt r 8 2) (bytesAt r (12 + number (bytesAt r 6 2) + number (bytesAt r 10 2)) 4)
+    (exponent-length s p _ _ ex ey (omega arith)) (modulus-length s p _ _ ex ey (omega arith))
+    (number-at s p 8 2 (c .before .before .before .before .two5 .ensures .0)) (flags-at s p _ _ ex ey (c .before .before .before .four .ensures))
+    ∙ ap₂ (λ (e m : List ℕ). firstRefusal (located (partSlots publicKey r) (checks false publicKey (bytesAt r 8 2 ∷ e ∷ m ∷ bytesAt r (12 + number (bytesAt r 6 2) + number (bytesAt r 10 2)) 4 ∷ []))))
+    (exponent-at s p _ _ ex ey) (modulus-at s p _ _ ex ey)))
 
 pub public-key-at-spec : {M : Type 1} → statement M
 public-key-at-spec =
     tie.close
     (tie.spec
-    section-head-requires
-    returns
-    add-two
-    two-requires
-    add-two-2
-    two-requires-2
-    add-if2
-    add-if2-2
-    add-two-3
-    two-requires-3
-    returns-2
-    add-two-4
-    two-requires-4
-    returns-3
-    add-modulus-at
-    add-modulus-at-2
-    add-flags-at
-    add-two-5
-    two-requires-5
-    four-requires
-    add-key-fields
-    sub-key-fields
-    part-key-fields-start
-    part-key-fields-end
-    sub-key-fields-2
-    part-key-fields-start-2
-    part-key-fields-end-2
-    key-fields-requires
-    returns-4)
+    (λ c κs. search needs)
+    (λ c x repeated. section-head 16 _ _ _ (c .before .section-head .ensures) .stop (c .if1 .taken))
+    (λ c. search needs)
+    (λ c κs. let m = room c in omega (arith, m))
+    (λ c. search needs)
+    (λ c κs. let m = room (c .before) in omega (arith, m))
+    (λ c. search needs)
+    (λ c. search needs)
+    (λ c. search needs)
+    (λ c κs. search needs)
+    (λ c x repeated.
+    failed (past-1 (c .before .before .before .before) x repeated) (made-not _ _ _ _ (c .before .before .before .two .ensures .0) (c .before .before .two2 .ensures .0) _ (c .before .two3 .ensures .0) (c .if2 .taken)))
+    (λ c. search needs)
+    (λ c κs. let m = room (c .before .before .before .before) in omega (arith, m))
+    (λ c x repeated. failed (past-2 (c .before .before) x repeated) (zero-not _ _ 4 2 (c .before .two4 .ensures .0) (c .if3 .taken)))
+    (λ c. search needs)
+    (λ c. search needs)
+    (λ c. search needs)
+    (λ c. search needs)
+    (λ c κs. let m = whole (c .before .before) in omega arith)
+    (λ c κs. let m = whole (c .before .before .before) in omega arith)
+    (λ c. search needs)
+    (λ c. search needs)
+    (λ c. search needs)
+    (λ c. let m = whole (c .before .before .before .before) in omega arith)
+    (λ c. search needs)
+    (λ c. search needs)
+    (λ c. let m = whole (c .before .before .before .before .before) in omega arith)
+    (λ c κs. search needs)
+    last)
