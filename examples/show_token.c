@@ -20,6 +20,9 @@ enum { MOST = TB_LONGEST + 1 };
 /* A field longer than this is shown in part. */
 enum { SHOWN = 16 };
 
+/* The numbers of a row in the table. */
+enum { KIND, OFFSET, LENGTH, OWNER, RULE };
+
 struct token {
     uint8_t bytes[MOST];
     size_t length;
@@ -53,20 +56,22 @@ static const uint8_t *field_of(const struct token *token, uint32_t row, uint32_t
     return token->bytes + offset;
 }
 
+/* Each rule with its number. The last one's number is how many there are. */
 static void show_rules(const struct token *token)
 {
     uint32_t row, length, count = 0;
 
     for (row = 0; row < token->rows; row++) {
+        const uint32_t *numbers = token->table + TB_COLUMNS * row;
         const uint8_t *rule_id;
 
-        if (token->table[TB_COLUMNS * row] != TB_KIND_RULE) {
+        if (numbers[KIND] != TB_KIND_RULE) {
             continue;
         }
+        count = numbers[RULE];
         rule_id = field_of(token, row, 3, &length);
         if (rule_id != NULL) {
-            printf("rule '%.*s'\n", (int)length, (const char *)rule_id);
-            count++;
+            printf("rule %u '%.*s'\n", (unsigned)count, (int)length, (const char *)rule_id);
         }
     }
     printf("%u rules\n", (unsigned)count);
@@ -89,8 +94,13 @@ static void show_row(const struct token *token, uint32_t row)
     const uint8_t *bytes;
     uint32_t field, length;
 
-    printf("row %u: kind %02X %04X at %u, %u bytes, of row %u\n", (unsigned)row, (unsigned)(numbers[0] >> 16),
-           (unsigned)(numbers[0] & 0xFFFF), (unsigned)numbers[1], (unsigned)numbers[2], (unsigned)numbers[3]);
+    printf("row %u: kind %02X %04X at %u, %u bytes, of row %u", (unsigned)row, (unsigned)(numbers[KIND] >> 16),
+           (unsigned)(numbers[KIND] & 0xFFFF), (unsigned)numbers[OFFSET], (unsigned)numbers[LENGTH],
+           (unsigned)numbers[OWNER]);
+    if (numbers[RULE] != 0) {
+        printf(", rule %u", (unsigned)numbers[RULE]);
+    }
+    putchar('\n');
     for (field = 0; (bytes = field_of(token, row, field, &length)) != NULL; field++) {
         printf("  field %u, %u bytes:", (unsigned)field, (unsigned)length);
         show_bytes(bytes, length);

@@ -46,8 +46,8 @@ enum {
     TB_INTERNAL = 0x1F, /* of an internal one */
     TB_SHORTEST = 80,   /* bytes of the shortest token */
     TB_LONGEST = 3500,  /* bytes of the longest */
-    TB_COLUMNS = 4,     /* numbers of a row: kind, offset, length, owner */
-    TB_TABLE = 1200     /* numbers of a table with room for any token, 300 rows */
+    TB_COLUMNS = 5,     /* numbers of a row: kind, offset, length, owner, rule */
+    TB_TABLE = 1500     /* numbers of a table with room for any token, 300 rows */
 };
 
 /* The numbers given back. The first test that fails gives the answer: the header's, then section by section. */
@@ -119,11 +119,12 @@ enum {
 uint32_t tb_read(const uint8_t *token, size_t token_len, uint32_t *second);
 
 /*
- * Judges a token and fills the table, four numbers to a row: kind, offset, length, owner. The rows are
+ * Judges a token and fills the table, five numbers to a row: kind, offset, length, owner, rule. The rows are
  * numbered from 0, one for each section and subsection, in the order of the token; a section's length
  * covers its subsections, and the owner is the row of the section that the part belongs to, for a section
- * its own. `table_len` counts numbers, not bytes. 0 and 1 to 21 as above. 23: the token is legal and the
- * table too small, second = the rows needed; room is 4 * rows.
+ * its own. The last number is for a rule and its subsections the rule's place among the rules of the token,
+ * from 1; elsewhere 0. `table_len` counts numbers, not bytes. 0 and 1 to 21 as above. 23: the token is legal
+ * and the table too small, second = the rows needed; room is TB_COLUMNS * rows.
  */
 uint32_t tb_read_table(const uint8_t *token, size_t token_len, uint32_t *table, size_t table_len,
                        uint32_t *second);
@@ -140,20 +141,20 @@ uint32_t tb_view(const uint8_t *token, size_t token_len, uint32_t row, uint32_t 
 
 /*
  * The walk: the row that begins at a place, and the place of the next row. A walk begins at place 8 and ends
- * at the token's length. 0: second = 0, and either a row, its four numbers as in a table, next = where the next
+ * at the token's length. 0: second = 0, and either a row, its five numbers as in a table, next = where the next
  * row begins, or the token's length; or the end, kind = 0. 1 to 21: the token is not legal, second = the
- * place. 22: no row begins there, second = 0. Without a row the other five numbers are 0. Each call reads the
+ * place. 22: no row begins there, second = 0. Without a row the other six numbers are 0. Each call reads the
  * token anew: for all rows tb_read_table is quicker.
  */
 uint32_t tb_step(const uint8_t *token, size_t token_len, uint32_t place, uint32_t *second, uint32_t *kind,
-                 uint32_t *offset, uint32_t *length, uint32_t *owner, uint32_t *next);
+                 uint32_t *offset, uint32_t *length, uint32_t *owner, uint32_t *rule, uint32_t *next);
 
 /*
  * The row of a number, found by as many steps of the walk; the answers are those of tb_step, and 22 with
  * second = 0 where the token has fewer rows.
  */
 uint32_t tb_row(const uint8_t *token, size_t token_len, uint32_t row, uint32_t *second, uint32_t *kind,
-                uint32_t *offset, uint32_t *length, uint32_t *owner, uint32_t *next);
+                uint32_t *offset, uint32_t *length, uint32_t *owner, uint32_t *rule, uint32_t *next);
 
 /* ---- Writing */
 

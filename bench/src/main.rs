@@ -10,10 +10,7 @@ use std::hint::black_box;
 use tokens::{samples, Sample};
 use trusted_block_tests::fast::{fast_fill, fast_read};
 use trusted_block_tests::library;
-use trusted_block_tests::reader::{read_answer, Answer};
-
-/// Numbers of the table; it is filled by the call before, and warm.
-const TABLE: usize = 1200;
+use trusted_block_tests::reader::{read_answer, Answer, TABLE};
 
 fn main() {
     let asked = std::env::args().nth(1);
@@ -55,6 +52,7 @@ fn measure_read(sample: &Sample) {
     print("read", pairs);
 }
 
+/// The table holds the rows of the call before, and is warm.
 fn measure_table(sample: &Sample) {
     let token = &sample.token;
     let (mut one, mut other) = (vec![7; TABLE], vec![7; TABLE]);

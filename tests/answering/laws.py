@@ -86,7 +86,7 @@ def of_given(case, bases):
         asked, names = f"({'At' if words[0] == 'at' else 'Missing'} {words[1]} {words[2]})", ["offsetOf", "lengthOf"]
     else:
         asked = step(words)
-        names = ["stepNumber", "rowAnswer", "stepSecond", "rowKind", "rowOffset", "rowLength", "rowOwner", "nextOf"]
+        names = ["stepNumber", "rowAnswer", "stepSecond", "rowKind", "rowOffset", "rowLength", "rowOwner", "rowRule", "nextOf"]
     return [(f"{name} {asked}", number) for name, number in zip(names, case.says)]
 
 
@@ -107,7 +107,7 @@ def of_parts(case, bases):
     token, rows = terms.token(bases, bs), terms.list_of([terms.row(r) for r in case.says[1:]])
     rules = sum(r.startswith(f"{0x120000},") for r in case.says[1:])
     first, *others = terms.parts_of(words)
-    subs = sum(r.endswith(",0") for r in case.says[1:]) - 1
+    subs = sum(r.split(",")[3] == "0" for r in case.says[1:]) - 1  # the rows that the first one owns, but itself
     started = f"({i} ∷ 0 ∷ 0 ∷ 8 ∷ replicate 4 0 ++ replicate {len(bs) - 8} 7)"
     return [(f"written {i} {ps}", token), (f"rows {ps}", rows), (f"ruleCount {ps}", str(rules)), (f"ruleRows {rows}", str(rules)),
             (f"partsOf (sectionsOf {ps})", ps), (f"sectionsEnd (sectionsOf {ps})", str(len(bs))),

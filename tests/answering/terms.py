@@ -55,8 +55,8 @@ def answer(number, second):
 
 
 def row(word):
-    kind, offset, length, owner = word.split(",")
-    return f"(record {{ kind = {kind}; offset = {offset}; length = {length}; owner = {owner} }})"
+    kind, offset, length, owner, rule = word.split(",")
+    return f"(record {{ kind = {kind}; offset = {offset}; length = {length}; owner = {owner}; rule = {rule} }})"
 
 
 def truth(word):

@@ -26,15 +26,17 @@ static uint32_t read_only(const uint8_t *token, size_t length, uint32_t *second)
 
 static void nothing_at_a_null_pointer(void)
 {
+    static const uint32_t before[TB_COLUMNS] = {1, 2, 3, 4, 5};
     uint32_t second = UNTOUCHED, offset = UNTOUCHED, length = UNTOUCHED;
-    uint32_t table[4] = {1, 2, 3, 4};
+    uint32_t table[TB_COLUMNS];
 
     CHECK(tb_read(NULL, 0, &second) == TB_NO_HEADER && second == 0);
     second = UNTOUCHED;
     CHECK(tb_read_table(NULL, 0, NULL, 0, &second) == TB_NO_HEADER && second == 0);
     second = UNTOUCHED;
-    CHECK(tb_read_table(NULL, 0, table, 4, &second) == TB_NO_HEADER && second == 0);
-    CHECK(table[0] == 1 && table[1] == 2 && table[2] == 3 && table[3] == 4);
+    memcpy(table, before, sizeof table);
+    CHECK(tb_read_table(NULL, 0, table, TB_COLUMNS, &second) == TB_NO_HEADER && second == 0);
+    CHECK(memcmp(table, before, sizeof table) == 0);
     second = UNTOUCHED;
     CHECK(tb_read_table(smallest, 80, NULL, 0, &second) == TB_NO_ROOM && second == 2);
     CHECK(tb_view(NULL, 0, 0, 0, &second, &offset, &length) == TB_NO_HEADER);
@@ -44,7 +46,8 @@ static void nothing_at_a_null_pointer(void)
 /* A table of this many numbers: too small and untouched, or filled and untouched behind its rows. */
 static void smallest_into_table(size_t numbers)
 {
-    static const uint32_t rows[8] = {TB_KIND_INFORMATION, 8, 72, 0, TB_KIND_PROTECTION, 18, 62, 0};
+    static const uint32_t rows[2 * TB_COLUMNS] = {TB_KIND_INFORMATION, 8,  72, 0, 0,
+                                                  TB_KIND_PROTECTION,  18, 62, 0, 0};
     uint32_t before[16], second = UNTOUCHED, number;
     struct lent lent;
     size_t i;
@@ -52,13 +55,13 @@ static void smallest_into_table(size_t numbers)
     for (i = 0; i < 16; i++) {
         before[i] = UNTOUCHED;
     }
-    lent = lend(before, 4 * numbers, PAGE_BEHIND);
+    lent = lend(before, numbers * sizeof *before, PAGE_BEHIND);
     number = tb_read_table(smallest, 80, (uint32_t *)(void *)lent.bytes, numbers, &second);
-    CHECK(second == 2 && number == (numbers < 8 ? TB_NO_ROOM : TB_ACCEPTED));
+    CHECK(second == 2 && number == (numbers < 2 * TB_COLUMNS ? TB_NO_ROOM : TB_ACCEPTED));
     if (number == TB_ACCEPTED) {
         memcpy(before, rows, sizeof rows);
     }
-    CHECK(memcmp(lent.bytes, before, 4 * numbers) == 0);
+    CHECK(memcmp(lent.bytes, before, lent.length) == 0);
     take_back(&lent);
 }
 
@@ -66,6 +69,7 @@ static void tables_of_every_size(void)
 {
     size_t numbers;
 
+    CHECK(TB_COLUMNS == 5 && TB_TABLE == 300 * TB_COLUMNS);
     for (numbers = 0; numbers <= 16; numbers++) {
         smallest_into_table(numbers);
     }
@@ -102,24 +106,28 @@ static void fields_of_the_smallest(void)
 
 /* A step of the walk or a row by its number, as the two rows of the smallest token must give it. */
 typedef uint32_t step_call(const uint8_t *, size_t, uint32_t, uint32_t *, uint32_t *, uint32_t *, uint32_t *, uint32_t *,
-                           uint32_t *);
+                           uint32_t *, uint32_t *);
 
-static void step_is(step_call *call, size_t size, uint32_t asked, uint32_t number, const uint32_t expected[6])
+/* What a step gives: second, the row's numbers, next. */
+enum { GIVEN = TB_COLUMNS + 2 };
+
+static void step_is(step_call *call, size_t size, uint32_t asked, uint32_t number, const uint32_t expected[GIVEN])
 {
-    uint32_t given[6] = {UNTOUCHED, UNTOUCHED, UNTOUCHED, UNTOUCHED, UNTOUCHED, UNTOUCHED};
+    uint32_t given[GIVEN] = {UNTOUCHED, UNTOUCHED, UNTOUCHED, UNTOUCHED, UNTOUCHED, UNTOUCHED, UNTOUCHED};
     struct lent token = lend_to_read(smallest, size, PAGE_BEHIND);
 
-    CHECK(call(token.bytes, size, asked, &given[0], &given[1], &given[2], &given[3], &given[4], &given[5]) == number);
+    CHECK(call(token.bytes, size, asked, &given[0], &given[1], &given[2], &given[3], &given[4], &given[5], &given[6]) ==
+          number);
     CHECK(memcmp(given, expected, sizeof given) == 0);
     take_back(&token);
 }
 
 static void walk_over_the_smallest(void)
 {
-    static const uint32_t first[6] = {0, TB_KIND_INFORMATION, 8, 72, 0, 18};
-    static const uint32_t last[6] = {0, TB_KIND_PROTECTION, 18, 62, 0, 80};
-    static const uint32_t none[6] = {0, 0, 0, 0, 0, 0};
-    static const uint32_t cut[6] = {2, 0, 0, 0, 0, 0};
+    static const uint32_t first[GIVEN] = {0, TB_KIND_INFORMATION, 8, 72, 0, 0, 18};
+    static const uint32_t last[GIVEN] = {0, TB_KIND_PROTECTION, 18, 62, 0, 0, 80};
+    static const uint32_t none[GIVEN] = {0, 0, 0, 0, 0, 0, 0};
+    static const uint32_t cut[GIVEN] = {2, 0, 0, 0, 0, 0, 0};
     uint32_t place;
 
     for (place = 0; place < 90; place++) {
@@ -135,19 +143,38 @@ static void walk_over_the_smallest(void)
     step_is(tb_row, 0, 0, TB_NO_HEADER, none);
 }
 
-/* All three calls on a token that lies against a forbidden page, with a table just large enough. */
+/* In the rows of a table a rule and its subsections have the rule's number, others 0; the walk gives the same rows. */
+static void rules_are_numbered(const struct lent *token, const uint32_t *table, uint32_t rows)
+{
+    uint32_t row, second, given[TB_COLUMNS], place = 8, rules = 0;
+
+    for (row = 0; row < rows; row++) {
+        const uint32_t *numbers = table + TB_COLUMNS * row;
+
+        rules += numbers[0] == TB_KIND_RULE;
+        CHECK(numbers[4] == (numbers[0] >> 16 == TB_KIND_RULE >> 16 ? rules : 0));
+        CHECK(tb_step(token->bytes, token->length, place, &second, &given[0], &given[1], &given[2], &given[3],
+                      &given[4], &place) == TB_ACCEPTED);
+        CHECK(memcmp(given, numbers, sizeof given) == 0);
+    }
+}
+
+/* All calls on a token that lies against a forbidden page, with a table just large enough. */
 static void read_at_a_page(const uint8_t *bytes, size_t size, enum side side)
 {
     struct lent token = lend_to_read(bytes, size, side);
     static const uint32_t blank[TB_TABLE];
-    uint32_t number, second, again, row, field, offset, length;
+    uint32_t number, second, again, rows, row, field, offset, length, *numbers;
     struct lent table;
 
     number = read_only(token.bytes, size, &second);
-    table = lend(blank, number == TB_ACCEPTED ? 16 * (size_t)second : 0, PAGE_BEHIND);
-    CHECK(tb_read_table(token.bytes, size, (uint32_t *)(void *)table.bytes, table.length / 4, &again) == number);
+    rows = number == TB_ACCEPTED ? second : 0;
+    table = lend(blank, sizeof *blank * TB_COLUMNS * rows, PAGE_BEHIND);
+    numbers = (uint32_t *)(void *)table.bytes;
+    CHECK(tb_read_table(token.bytes, size, numbers, TB_COLUMNS * (size_t)rows, &again) == number);
     CHECK(again == second);
-    for (row = 0; row <= (number == TB_ACCEPTED ? second : 0); row++) {
+    rules_are_numbered(&token, numbers, rows);
+    for (row = 0; row <= rows; row++) {
         for (field = 0; field < 12; field++) {
             uint32_t given = tb_view(token.bytes, size, row, field, &again, &offset, &length);
 

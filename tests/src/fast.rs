@@ -2,13 +2,15 @@
 //! nothing is allocated. Same answers as [`crate::reader`]. Where several tests
 //! are made at once, the place is worked out only after they have failed.
 
+mod filling;
 mod rules;
 mod sections;
 mod signs;
 /// An optimised writer with the same answers as [`crate::writer`].
 pub mod writer;
 
-use crate::reader::Answer;
+use crate::reader::{Answer, COLUMNS};
+use filling::fill;
 use rules::{rule, RuleIds};
 use sections::{information, public_key};
 
@@ -48,7 +50,7 @@ pub fn fast_fill(token: &[u8], table: &mut [u32]) -> Answer {
         Ok(rows) => rows,
         Err(refusal) => return refusal,
     };
-    let number = if 4 * rows as usize > table.len() {
+    let number = if COLUMNS * rows as usize > table.len() {
         23
     } else {
         fill(token, table);
@@ -63,37 +65,6 @@ pub fn fast_fill(token: &[u8], table: &mut [u32]) -> Answer {
 #[inline]
 fn two(bytes: &[u8], place: usize) -> usize {
     usize::from(bytes[place]) << 8 | usize::from(bytes[place + 1])
-}
-
-/// Writes the rows of a token that was judged legal, and has room.
-fn fill(token: &[u8], table: &mut [u32]) {
-    let mut rows = table.chunks_exact_mut(4);
-    let mut count = 0;
-    let mut put = |kind: u32, place: usize, length: usize, owner: u32| {
-        if let Some(row) = rows.next() {
-            row.copy_from_slice(&[kind, place as u32, length as u32, owner]);
-        }
-    };
-    let mut place = 8;
-    while place + 4 <= token.len() {
-        let length = two(token, place + 2);
-        let kind = u32::from(token[place]) << 16;
-        let owner = count;
-        put(kind, place, length, owner);
-        count += 1;
-        let mut inner = match kind {
-            0x12_0000 => place + 20,
-            0x14_0000 => place + 10,
-            _ => place + length,
-        };
-        place += length;
-        while inner < place {
-            let length = two(token, inner + 2);
-            put(kind + u32::from(token[inner + 1]), inner, length, owner);
-            count += 1;
-            inner += length;
-        }
-    }
 }
 
 /// What has been met so far.

@@ -33,6 +33,7 @@ pub mod calls {
             offset: *mut u32,
             length: *mut u32,
             owner: *mut u32,
+            rule: *mut u32,
             next: *mut u32,
         ) -> u32;
         pub fn tb_row(
@@ -44,6 +45,7 @@ pub mod calls {
             offset: *mut u32,
             length: *mut u32,
             owner: *mut u32,
+            rule: *mut u32,
             next: *mut u32,
         ) -> u32;
     }
@@ -113,6 +115,7 @@ type WalkCall = unsafe extern "C" fn(
     *mut u32,
     *mut u32,
     *mut u32,
+    *mut u32,
 ) -> u32;
 
 /// The step of the walk at a place.
@@ -128,8 +131,8 @@ pub fn row(token: &[u8], row: u32) -> Step {
 /// Where no row is given, its numbers must be 0; no row has kind 0.
 fn walked(call: WalkCall, token: &[u8], asked: u32) -> Step {
     let mut second = NOT_GIVEN;
-    let [mut kind, mut offset, mut length, mut owner, mut next] = [NOT_GIVEN; 5];
-    // SAFETY: as above; the six numbers are apart.
+    let [mut kind, mut offset, mut length, mut owner, mut rule, mut next] = [NOT_GIVEN; 6];
+    // SAFETY: as above; the seven numbers are apart.
     let number = unsafe {
         call(
             token.as_ptr(),
@@ -140,6 +143,7 @@ fn walked(call: WalkCall, token: &[u8], asked: u32) -> Step {
             &mut offset,
             &mut length,
             &mut owner,
+            &mut rule,
             &mut next,
         )
     };
@@ -152,10 +156,11 @@ fn walked(call: WalkCall, token: &[u8], asked: u32) -> Step {
             offset,
             length,
             owner,
+            rule,
         };
         return Step::Row(row, next);
     }
-    assert_eq!([kind, offset, length, owner, next], [0; 5]);
+    assert_eq!([kind, offset, length, owner, rule, next], [0; 6]);
     if number == 0 {
         return Step::End;
     }

@@ -30,9 +30,10 @@ pub fn row_line(place: usize, row: &Row) -> String {
         offset,
         length,
         owner,
+        rule,
         ..
     } = row;
-    format!("{place} {id:02X} {tag} {offset} {length} {owner}\n")
+    format!("{place} {id:02X} {tag} {offset} {length} {owner} {rule}\n")
 }
 
 /// The whole listing of a token.

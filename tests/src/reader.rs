@@ -8,6 +8,11 @@ use crate::kinds::{
     LONGEST, PROTECTION, RULE, TOKEN_PARAMETERS,
 };
 
+/// Numbers to a row of the table.
+pub const COLUMNS: usize = 5;
+/// Numbers of a table with room for any token, 300 rows.
+pub const TABLE: usize = 300 * COLUMNS;
+
 /// One row of the table: a section or a subsection.
 #[derive(Clone, Copy, Debug, PartialEq, Eq)]
 pub struct Row {
@@ -15,6 +20,16 @@ pub struct Row {
     pub offset: u32,
     pub length: u32,
     pub owner: u32,
+    /// "For a rule and its subsections the rule's place among the rules, from
+    /// 1; elsewhere 0" (02, #108).
+    pub rule: u32,
+}
+
+impl Row {
+    /// The numbers of the row, as they stand in the table.
+    pub fn numbers(&self) -> [u32; COLUMNS] {
+        [self.kind, self.offset, self.length, self.owner, self.rule]
+    }
 }
 
 /// A number and a second number: the place of a refusal, or what 0 gives.
@@ -73,23 +88,25 @@ pub fn read_answer(token: &[u8]) -> Answer {
     }
 }
 
-/// Reads and fills the table, four numbers to a row. A refusal leaves the
+/// Reads and fills the table, five numbers to a row. A refusal leaves the
 /// table as it was, and nothing past the rows is changed.
 pub fn read_table(token: &[u8], table: &mut [u32]) -> Answer {
     let rows = match read(token) {
         Ok(rows) => rows,
         Err(refusal) => return refusal,
     };
-    if 4 * rows.len() > table.len() {
+    if COLUMNS * rows.len() > table.len() {
         return Answer::new(23, rows.len());
     }
-    for (index, row) in rows.iter().enumerate() {
-        table[4 * index] = row.kind;
-        table[4 * index + 1] = row.offset;
-        table[4 * index + 2] = row.length;
-        table[4 * index + 3] = row.owner;
-    }
+    put_rows(&rows, table);
     Answer::new(0, rows.len())
+}
+
+/// Writes the rows at the start of a table that has room for them.
+pub fn put_rows(rows: &[Row], table: &mut [u32]) {
+    for (index, row) in rows.iter().enumerate() {
+        table[COLUMNS * index..COLUMNS * (index + 1)].copy_from_slice(&row.numbers());
+    }
 }
 
 /// The header's tests 1, 2, 3, 4, 5 in order, each at its field; tokens and
@@ -145,7 +162,13 @@ fn read_section(
         return refuse(9, place);
     }
     let owner = rows.len();
-    rows.push(row(kind, place, length, owner));
+    rows.push(Row {
+        kind,
+        offset: place as u32,
+        length: length as u32,
+        owner: owner as u32,
+        rule: rule_number(kind, rows),
+    });
     if kind == RULE || kind == INFORMATION {
         read_subsections(token, place + fixed, owner, rows)?;
         check_mask_against_minimum(token, &rows[owner..])?;
@@ -176,6 +199,16 @@ fn section_frame(rest: &[u8], place: usize) -> Result<(u32, usize, usize), Answe
     Ok((kind, fixed, length))
 }
 
+/// The rule number of a section that stands after these rows: for a rule one
+/// more than the rules among them, else 0.
+fn rule_number(kind: u32, rows: &[Row]) -> u32 {
+    if kind != RULE {
+        return 0;
+    }
+    let before = rows.iter().filter(|row| row.kind == RULE).count();
+    before as u32 + 1
+}
+
 /// Whether a rule among the rows has this Rule ID.
 fn rule_id_stands_before(token: &[u8], rows: &[Row], rule_id: &[u8]) -> bool {
     rows.iter()
@@ -183,7 +216,8 @@ fn rule_id_stands_before(token: &[u8], rows: &[Row], rule_id: &[u8]) -> bool {
         .any(|row| bytes_of(token, row)[4..12] == *rule_id)
 }
 
-/// Reads the subsections that tile the rest of the section `owner`.
+/// Reads the subsections that tile the rest of the section `owner`. Their rows
+/// have its owner and its rule number.
 fn read_subsections(
     token: &[u8],
     first: usize,
@@ -212,7 +246,12 @@ fn read_subsections(
         }
         checks::subsection(kind, &rest[..length], token[0] == EXTERNAL)
             .map_err(|fault| refusal(fault, place))?;
-        rows.push(row(kind, place, length, owner));
+        rows.push(Row {
+            kind,
+            offset: place as u32,
+            length: length as u32,
+            ..section
+        });
         place += length;
     }
     Ok(())
@@ -246,15 +285,6 @@ fn check_required(token: &[u8], rows: &[Row]) -> Result<(), Answer> {
         return refuse(20, section.offset as usize);
     }
     Ok(())
-}
-
-fn row(kind: u32, offset: usize, length: usize, owner: usize) -> Row {
-    Row {
-        kind,
-        offset: offset as u32,
-        length: length as u32,
-        owner: owner as u32,
-    }
 }
 
 /// The bytes of a row's section or subsection.

@@ -15,17 +15,18 @@ use trusted_block_tests::generate::legal::{legal, ordinary, Token};
 use trusted_block_tests::kinds;
 use trusted_block_tests::parts::{written, Part};
 use trusted_block_tests::random::Random;
-use trusted_block_tests::reader::{read, read_answer, read_table, Answer};
+use trusted_block_tests::reader::{read, read_answer, read_table, Answer, COLUMNS};
 use trusted_block_tests::writer;
 
 /// A table that is too small, just large enough, or larger.
 fn any_table(random: &mut Random, rows: usize) -> Vec<u32> {
+    let enough = COLUMNS * rows;
     let length = match random.below(5) {
-        0 => 4 * rows,
-        1 => (4 * rows).saturating_sub(1),
-        2 => random.below(4 * rows + 1),
+        0 => enough,
+        1 => enough.saturating_sub(1),
+        2 => random.below(enough + 1),
         3 => 0,
-        _ => 4 * rows + random.below(9),
+        _ => enough + random.below(9),
     };
     let mut table = vec![0; length];
     table.fill_with(|| random.number() as u32);
@@ -38,18 +39,15 @@ fn both_readers(random: &mut Random, token: &[u8]) -> (Answer, Answer) {
     let plain = read_answer(token);
     assert_eq!(fast_read(token), plain, "{token:02X?}");
     let rows = if plain.number == 0 { plain.second } else { 2 };
+    let enough = COLUMNS * rows as usize;
     let before = any_table(random, rows as usize);
     let (mut one, mut other) = (before.clone(), before.clone());
     let with_table = read_table(token, &mut one);
     assert_eq!(fast_fill(token, &mut other), with_table, "{token:02X?}");
     assert_eq!(one, other, "{token:02X?}");
-    let filled = if with_table.number == 0 {
-        4 * rows as usize
-    } else {
-        0
-    };
+    let filled = if with_table.number == 0 { enough } else { 0 };
     assert_eq!(one[filled..], before[filled..], "{token:02X?}");
-    if plain.number == 0 && before.len() < 4 * rows as usize {
+    if plain.number == 0 && before.len() < enough {
         assert_eq!(
             with_table,
             Answer {

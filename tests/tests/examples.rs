@@ -41,14 +41,14 @@ fn smallest_token_is_accepted_with_two_rows() {
     let token = smallest_token();
     assert_eq!(token.len(), 80);
     assert_accepted(&token, 2);
-    let mut table = [7; 10];
+    let mut table = [7; 12];
     read_table(&token, &mut table);
     assert_eq!(
         table,
-        [0x14_0000, 8, 72, 0, 0x14_0001, 18, 62, 0, 7, 7],
-        "kind, offset, length, owner; nothing past the rows"
+        [0x14_0000, 8, 72, 0, 0, 0x14_0001, 18, 62, 0, 0, 7, 7],
+        "kind, offset, length, owner, rule; nothing past the rows"
     );
-    let lines = "token external 80 bytes 2 rows\n0 14 - 8 72 0\n1 14 0001 18 62 0\n";
+    let lines = "token external 80 bytes 2 rows\n0 14 - 8 72 0 0\n1 14 0001 18 62 0 0\n";
     assert_eq!(listing(&token), lines);
     assert_eq!(program_output(&token), lines);
 }
@@ -56,16 +56,16 @@ fn smallest_token_is_accepted_with_two_rows() {
 #[test]
 fn table_without_room_is_23_with_the_rows_needed() {
     let token = smallest_token();
-    for length in 0..8 {
+    for length in 0..10 {
         let mut table = vec![7; length];
         assert_eq!(read_table(&token, &mut table), answer(23, 2));
         assert_eq!(fast_fill(&token, &mut table), answer(23, 2));
         assert_eq!(library::read_table(&token, &mut table), answer(23, 2));
         assert_eq!(table, vec![7; length]);
     }
-    let mut table = [7; 8];
+    let mut table = [7; 10];
     assert_eq!(read_table(&token, &mut table), answer(0, 2));
-    let mut other = [7; 8];
+    let mut other = [7; 10];
     assert_eq!(library::read_table(&token, &mut other), answer(0, 2));
     assert_eq!(other, table);
 }

@@ -10,13 +10,10 @@ use trusted_block_tests::generate::faults::{CONTENT, LENGTHS};
 use trusted_block_tests::generate::legal::{legal, ordinary};
 use trusted_block_tests::library::{self, calls};
 use trusted_block_tests::random::Random;
-use trusted_block_tests::reader::{read, Answer, Row};
-
-/// Numbers of the table that is always large enough.
-const LARGE: usize = 1200;
+use trusted_block_tests::reader::{put_rows, read, Answer, Row, COLUMNS, TABLE};
 
 /// Numbers before and after the table lent, which must not change either.
-const MARGIN: usize = 4;
+const MARGIN: usize = COLUMNS;
 
 /// Bytes before and after the token lent.
 const AROUND: usize = 16;
@@ -36,7 +33,7 @@ struct Trial {
 impl Trial {
     fn new(seed: u64) -> Trial {
         let mut random = Random::new(seed);
-        let mut pattern = vec![0; LARGE + 2 * MARGIN];
+        let mut pattern = vec![0; TABLE + 2 * MARGIN];
         pattern.fill_with(|| random.number() as u32);
         Trial {
             random,
@@ -86,8 +83,8 @@ impl Trial {
             Ok(rows) => rows.len(),
             Err(_) => self.random.between(1, 40),
         };
-        let more = self.random.between(1, 9);
-        [0, 4 * rows - 1, 4 * rows, 4 * rows + more, LARGE]
+        let (enough, more) = (COLUMNS * rows, self.random.between(1, 9));
+        [0, enough - 1, enough, enough + more, TABLE]
     }
 
     /// Reads into a table of this length and compares all of it.
@@ -105,7 +102,7 @@ impl Trial {
         assert_eq!(given, expected(outcome, length), "{token:02X?}");
         if given.number == 0 {
             let rows = outcome.as_ref().expect("accepted");
-            fill(rows, &mut self.wanted[MARGIN..]);
+            put_rows(rows, &mut self.wanted[MARGIN..]);
         }
         assert!(self.table == self.wanted, "table: {token:02X?}");
         given
@@ -121,15 +118,9 @@ impl Trial {
 /// What the second reader answers for a table of this length.
 fn expected(outcome: &Result<Vec<Row>, Answer>, length: usize) -> Answer {
     match outcome {
-        Ok(rows) if 4 * rows.len() > length => Answer::new(23, rows.len()),
+        Ok(rows) if COLUMNS * rows.len() > length => Answer::new(23, rows.len()),
         Ok(rows) => Answer::new(0, rows.len()),
         Err(refusal) => *refusal,
-    }
-}
-
-fn fill(rows: &[Row], table: &mut [u32]) {
-    for (row, place) in rows.iter().zip(table.chunks_exact_mut(4)) {
-        place.copy_from_slice(&[row.kind, row.offset, row.length, row.owner]);
     }
 }
 

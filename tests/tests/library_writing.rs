@@ -13,7 +13,7 @@ use trusted_block_tests::library;
 use trusted_block_tests::library_writer::{add, add_at, calls, finish, start};
 use trusted_block_tests::parts::Part;
 use trusted_block_tests::random::Random;
-use trusted_block_tests::reader::{number, Answer};
+use trusted_block_tests::reader::{number, Answer, COLUMNS, TABLE};
 use trusted_block_tests::views::{part_of, taken_apart};
 
 /// What is to be met among the additions of the sequences, each often.
@@ -107,14 +107,14 @@ fn sequences_of_calls() {
 
 /// The identifier and the parts of a token, by the library's table and views.
 fn taken_apart_by_the_library(token: &[u8]) -> (u8, Vec<Part>) {
-    let mut table = [0; 1200];
+    let mut table = [0; TABLE];
     let rows = library::read_table(token, &mut table);
     assert_eq!(rows.number, 0);
     let part = |row: u32| {
         let fields = (0..).map_while(|field| library::view(token, row, field).ok());
         let bytes = |(offset, length): (u32, u32)| &token[offset as usize..][..length as usize];
         let fields: Vec<&[u8]> = fields.map(bytes).collect();
-        part_of(table[4 * row as usize], &fields)
+        part_of(table[COLUMNS * row as usize], &fields)
     };
     (token[0], (0..rows.second).map(part).collect())
 }

@@ -6,7 +6,7 @@ use lib.Dec.{lit<, lit≤}
 use lib.ListN.{replicate}
 use Rattle.format.specs.Parts.{Part, information, protection}
 use Rattle.format.specs.Legal.{Legal}
-use Rattle.format.specs.Table.{rows}
+use Rattle.format.specs.Table.{rows, tableReading, tableAfter}
 use Rattle.format.specs.Lines.{text, firstLine, rowLine}
 use Rattle.format.specs.declared.Answer.the-variants.{Refused}
 use Rattle.format.specs.declared.Row.{Row}
@@ -16,6 +16,7 @@ use Rattle.format.specs.Reading.{answer, asAnswer, reading, sections, se
 use Rattle.format.proofs.Numbers.{bytes-zeros}
 use Rattle.format.specs.Examples.{tokenT, Holds, starred, springToken}
 use Rattle.format.specs.PlaceExamples.{placesRead}
+use Rattle.format.specs.TableExamples.{twoRules, twoRulesTable}
 
 pub starred-hold : All Holds starred
 unfolding answer asAnswer reading sections section sectionRest afterSubsections subsections subsection tested need andThen number bytesAt allZero sameBytes dateExists ruleIdForm ruleIdReach
@@ -40,9 +41,14 @@ rowLines n (r ∷ rs) = rowLine n r ++ rowLines (suc n) rs
 -- the listing of the smallest token, line by line
 pub listing-T :
     firstLine 0x1E 80 (answer tokenT) ++ rowLines 0 (rows partsT)
-    ≡ text "token external 80 bytes 2 rows\n0 14 - 8 72 0\n1 14 0001 18 62 0\n"
+    ≡ text "token external 80 bytes 2 rows\n0 14 - 8 72 0 0\n1 14 0001 18 62 0 0\n"
 unfolding answer asAnswer reading sections section sectionRest afterSubsections subsections subsection tested need andThen number bytesAt allZero sameBytes firstLine rowLine
 listing-T = refl
+
+-- the table of the token with two rules, lent with room for two numbers more, and what stood in those
+pub table-read : tableAfter twoRules (replicate 32 9) ≡ twoRulesTable ++ (9 ∷ 9 ∷ [])
+unfolding tableAfter tableReading reading sections section sectionRest afterSubsections subsections subsection tested need andThen number bytesAt allZero sameBytes ruleIdForm
+table-read = refl
 
 -- The spring bill's token is refused.
 pub spring-refused : answer springToken ≡ Refused 12 102

@@ -34,6 +34,7 @@ pub mod Rows
 pub mod Elements
 pub mod Tiling
 pub mod Owners
+pub mod RuleNumbers
 pub mod Cutting
 pub mod Viewing
 pub mod Stepping

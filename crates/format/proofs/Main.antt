@@ -5,7 +5,7 @@ use mathlib.Core.Bool.{Bool, true, false, _&&_}
 use mathlib.Core.List.{List, [], _∷_, _++_}
 use mathlib.Core.Logic.{_↔_, _⊎_}
 use mathlib.Core.Option.{some}
-use Prim.Native.Nat.{ℕ, suc, _+_, _*_, _^_, _≤_, _<_}
+use Prim.Native.Nat.{ℕ, suc, _+_, _*_, _/_, _^_, _≤_, _<_}
 use lib.Dec.{leb}
 use lib.ListN.{length, take, drop, getElem?, replicate}
 use Rattle.format.specs.Bytes.{All, Bytes, bigEndian, number, bytesAt}
@@ -16,13 +16,14 @@ use Rattle.format.specs.Forms.{ruleIdForm, ruleIdReach, labelForm, label
 use Rattle.format.specs.Rules.{Check, checks, Section, ofKind}
 use Rattle.format.specs.Legal.{Lawful, Complete, Legal, ruleCount, rulesOfAll, joined}
 use Rattle.format.specs.Reading.{Fault, fault, Outcome, refused, found, stated, reading, partsOf, answer}
-use Rattle.format.specs.Table.{Placed, placed, rows, columns, rowNumbers, tableOf, tableAnswer, tableAfter}
+use Rattle.format.specs.Table.{Placed, afterHeader, placed, rows, columns, rowNumbers, tableOf, tableAnswer, tableAfter}
 use Rattle.format.specs.Views.{fieldAt, view, viewAnswer, nextPlace, stepAt}
 use Rattle.format.specs.GivenNumbers.{numberOf, secondOf, offsetOf, lengthOf, stepNumber, rowKind}
 use Rattle.format.specs.Writer.{writeAnswer, draftAfter, start, addition, finish, dateFields}
-use Rattle.format.specs.Claims.{answerNumbers, stepNumbers, IsRow, Tiles, subsOf, ruleRows, slotsOf, chosenViews, viewsFrom, walk, walkPlace, additions, InPart, Stops, restate, sectionsEnd, lackingAt}
+use Rattle.format.specs.Claims.{answerNumbers, stepNumbers, IsRow, Tiles, subsOf, ruleRows, ruleNumbers, following, lastOf, slotsOf, chosenViews, viewsFrom, walk, walkPlace, additions, InPart, Stops, restate, sectionsEnd, lackingAt}
 use Rattle.format.specs.Examples.{tokenT, Holds, starred, springToken}
 use Rattle.format.specs.PlaceExamples.{placesRead}
+use Rattle.format.specs.TableExamples.{twoRules, twoRulesTable}
 use Rattle.format.specs.DateExamples.{withDates, datesRead}
 use Rattle.format.specs.declared.Answer.the-variants.{Accepted, Refused}
 use Rattle.format.specs.declared.Step.the-variants.{End, Stopped}
@@ -34,6 +35,7 @@ use Rattle.format.proofs.Rows as Rows
 use Rattle.format.proofs.Tables as Tables
 use Rattle.format.proofs.Tiling as Tiling
 use Rattle.format.proofs.Owners as Owners
+use Rattle.format.proofs.RuleNumbers as RuleNumbers
 use Rattle.format.proofs.Viewing as Viewing
 use Rattle.format.proofs.Walking as Walking
 use Rattle.format.proofs.Writing as Writing
@@ -75,8 +77,8 @@ pub table-holds-rows : (bs t : List ℕ) (l : Legal bs) → columns * length (ro
     → tableAfter bs t ≡ tableOf (rows (l .parts)) ++ drop (columns * length (rows (l .parts))) t
 table-holds-rows bs t l h = Tables.table-holds bs t l h
 
--- "23 is given exactly when the token is legal and four times the rows exceeds the table; its second number is the rows
--- needed."
+-- "23 is given exactly when the token is legal and four times the rows exceeds the table", five times with 02's 108; "its
+-- second number is the rows needed."
 pub no-room : (bs t : List ℕ) (n : ℕ) → Bytes bs
     → (tableAnswer bs t ≡ Refused 23 n) ↔ ((l : Legal bs) × (n ≡ length (rows (l .parts))) × (length t < columns * n))
 no-room bs t n b = Tables.no-room bs t n b
@@ -96,7 +98,7 @@ pub table-in-numbers : (bs t : List ℕ) → Bytes bs
 table-in-numbers bs t b = Tables.table-numbers bs t b
 
 -- "each once, in order": the rows' own bytes tile the token from byte 8 to its end.
-pub rows-tile : (bs : List ℕ) (l : Legal bs) → Tiles 8 (placed 8 0 0 (l .parts)) (length bs)
+pub rows-tile : (bs : List ℕ) (l : Legal bs) → Tiles 8 (placed afterHeader (l .parts)) (length bs)
 rows-tile bs l = Tiling.rows-tile bs l
 
 -- A row's offset and length are those of its part with its subsections, in the token's own bytes.
@@ -147,6 +149,10 @@ places-by-example = Examples.places-read
 pub at-most-300-rows : (bs : List ℕ) (l : Legal bs) → length (rows (l .parts)) ≤ 300
 at-most-300-rows bs l = subst (λ (n : ℕ). n ≤ 300) (sym (Rows.row-count (l .parts))) (Rows.few-rows bs l)
 
+-- So a table of 1,500 numbers has room for any.
+pub table-of-1500 : (bs t : List ℕ) (l : Legal bs) → 1500 ≤ length t → tableAnswer bs t ≡ Accepted (length (rows (l .parts)))
+table-of-1500 bs t l h = Tables.room-for-any bs t l (at-most-300-rows bs l) h
+
 -- ---- demand 3
 
 -- "each legal token is the written form, as 01 builds it, of one choice of identifier and parts and of no other."
@@ -183,7 +189,26 @@ count-over-a-list t ts l ls = (refl, refl)
 
 -- It is the count of the table's rows whose kind is that of section 12, which the desk bills from.
 pub count-by-rows : (bs : List ℕ) (l : Legal bs) → ruleRows (rows (l .parts)) ≡ ruleCount (l .parts)
-count-by-rows bs l = Runs.count-of-rows 8 0 0 (l .parts)
+count-by-rows bs l = Runs.count-of-rows afterHeader (l .parts)
+
+-- 02, 108: "for a rule and its subsections the rule's place among the rules, from 1": the numbers of the rows of rules are 1, 2,
+-- .. up to the count of rules, in order,
+pub rules-numbered : (bs : List ℕ) (l : Legal bs) → ruleNumbers (rows (l .parts)) ≡ following 0 (ruleCount (l .parts))
+rules-numbered bs l = RuleNumbers.rules-numbered (l .parts)
+
+-- so that the last rule's number is the count that the desk bills;
+pub last-rule-number : (bs : List ℕ) (l : Legal bs) → lastOf 0 (ruleNumbers (rows (l .parts))) ≡ ruleCount (l .parts)
+last-rule-number bs l = RuleNumbers.last-number (l .parts)
+
+-- a subsection has the number of its owner's row, and "elsewhere 0": a row of another section has none.
+pub rule-of-a-row : (bs : List ℕ) (l : Legal bs) (k : ℕ) (x : Placed) → IsRow bs l k x
+    → ((y : Placed) → IsRow bs l (x .row .owner) y → x .row .rule ≡ y .row .rule)
+    × ((x .row .kind / 65536 ≡ 0x12 → ⊥) → x .row .rule ≡ 0)
+rule-of-a-row bs l k x r = RuleNumbers.row-rule bs l k x r
+
+-- The table of a token with two rules and a name between them.
+pub table-by-example : tableAfter twoRules (replicate 32 9) ≡ twoRulesTable ++ (9 ∷ 9 ∷ [])
+table-by-example = Examples.table-read
 
 -- ---- views and the walk
 
@@ -256,16 +281,16 @@ pub no-row-begins-there : (bs : List ℕ) (l : Legal bs) (at : ℕ)
 no-row-begins-there bs l at a b = Walking.step-nowhere bs l at a b
 
 -- "each step answers one record, the end or a refusal: the row that begins there with the next row's place", in the paper's
--- numbers: 0, 0, the row's four and that place; at the end 0s; at any other place 22 and 0s; for an illegal token the
+-- numbers: 0, 0, the row's five and that place; at the end 0s; at any other place 22 and 0s; for an illegal token the
 -- numbers of reading it and 0s.
 pub step-in-numbers : (bs : List ℕ) → Bytes bs
     → ((l : Legal bs) (k : ℕ) (x : Placed) → IsRow bs l k x
     → stepNumbers (stepAt bs (x .row .offset))
     ≡ 0 ∷ 0 ∷ rowNumbers (x .row) ++ (nextPlace (length bs) (drop (suc k) (rows (l .parts))) ∷ []))
-    × (Legal bs → stepNumbers (stepAt bs (length bs)) ≡ replicate 7 0)
+    × (Legal bs → stepNumbers (stepAt bs (length bs)) ≡ replicate 8 0)
     × ((l : Legal bs) (at : ℕ) → ((k : ℕ) (x : Placed) → IsRow bs l k x → at ≡ x .row .offset → ⊥) → (at ≡ length bs → ⊥)
-    → stepNumbers (stepAt bs at) ≡ 22 ∷ replicate 6 0)
-    × ((at : ℕ) → (Legal bs → ⊥) → stepNumbers (stepAt bs at) ≡ answerNumbers (answer bs) ++ replicate 5 0)
+    → stepNumbers (stepAt bs at) ≡ 22 ∷ replicate 7 0)
+    × ((at : ℕ) → (Legal bs → ⊥) → stepNumbers (stepAt bs at) ≡ answerNumbers (answer bs) ++ replicate 6 0)
 step-in-numbers bs b = Walking.step-numbers bs b
 
 -- So 0 with kind 0 is given exactly at the end, and 22 exactly at a place that is neither a row's nor the end.

@@ -10,7 +10,7 @@ use lib.ListN.{length, take, drop, getElem?}
 use Rattle.format.specs.Parts.{sectionId, isSubsection, Part, size}
 use Rattle.format.specs.Rules.{frontSubs}
 use Rattle.format.specs.Legal.{Legal}
-use Rattle.format.specs.Table.{Placed, placed}
+use Rattle.format.specs.Table.{Placed, Before, afterHeader, ownerOf, after, placed}
 use Rattle.format.proofs.Finding.{sectionId-pos}
 use Rattle.format.proofs.Unique.{Owned, FitParts, fit-parts}
 use Rattle.format.proofs.Grouping.{is-true, is-false}
@@ -21,21 +21,21 @@ use Rattle.format.proofs.Tiling.{rows-tile, row-of, subsection-length, 
 use Rattle.format.proofs.Stepping.{rising}
 use Rattle.format.specs.Claims.{IsRow}
 
--- The owner of a section's row, for parts that stand after n rows.
-own-from : (at n o : ℕ) (ps : List Part) (k : ℕ) (x : Placed) → getElem? (placed at n o ps) k ≡ some x
-    → isSubsection (x .part .kind) ≡ false → x .row .owner ≡ n + k
-own-from at n o [] k x e s = absurd (let z : _≡_ {A = ℕ} 0 1 = cc in omega arith)
-own-from at n o (p ∷ ps) zero x e s =
+-- The owner of a section's row, for parts that stand after other rows.
+own-from : (b : Before) (ps : List Part) (k : ℕ) (x : Placed) → getElem? (placed b ps) k ≡ some x
+    → isSubsection (x .part .kind) ≡ false → x .row .owner ≡ b .rows + k
+own-from b [] k x e s = absurd (let z : _≡_ {A = ℕ} 0 1 = cc in omega arith)
+own-from b (p ∷ ps) zero x e s =
     let q = some-inj e in
     ap (λ (y : Placed). y .row .owner) (sym q)
-    ∙ is-false (isSubsection (p .kind)) o n (ap (λ (y : Placed). isSubsection (y .part .kind)) q ∙ s)
+    ∙ is-false (isSubsection (p .kind)) (b .section) (b .rows) (ap (λ (y : Placed). isSubsection (y .part .kind)) q ∙ s)
     ∙ omega arith
-own-from at n o (p ∷ ps) (suc k) x e s = let i = own-from (at + size p) (suc n) _ ps k x e s in omega arith
+own-from b (p ∷ ps) (suc k) x e s = let i = own-from (after b p) ps k x e s in omega arith
 
 -- A section's owner is its own row.
-pub section-owner : (ps : List Part) (k : ℕ) (x : Placed) → getElem? (placed 8 0 0 ps) k ≡ some x
+pub section-owner : (ps : List Part) (k : ℕ) (x : Placed) → getElem? (placed afterHeader ps) k ≡ some x
     → isSubsection (x .part .kind) ≡ false → x .row .owner ≡ k
-section-owner ps k x e s = own-from 8 0 0 ps k x e s ∙ omega arith
+section-owner ps k x e s = own-from afterHeader ps k x e s ∙ omega arith
 
 -- ---- the owner of a subsection
 
@@ -91,25 +91,24 @@ first-sub : (y : Placed) (xs : List Placed) → isSubsection (y .part .kind) ≡
 first-sub y xs s zero z a e = ap (λ (v : Placed). isSubsection (v .part .kind)) (sym (some-inj e)) ∙ s
 first-sub y xs s (suc j) z a e = absurd (omega arith)
 
--- The owner of a subsection's row, for parts that stand after n rows, o the row of the last section.
-owner-from : (at n o : ℕ) (ps : List Part) (k : ℕ) (x : Placed) → getElem? (placed at n o ps) k ≡ some x
-    → isSubsection (x .part .kind) ≡ true → OwnerIs n o (placed at n o ps) k x
-owner-from at n o [] k x e s = absurd (let z : _≡_ {A = ℕ} 0 1 = cc in omega arith)
-owner-from at n o (p ∷ ps) zero x e s =
+-- The owner of a subsection's row, for parts that stand after other rows.
+owner-from : (b : Before) (ps : List Part) (k : ℕ) (x : Placed) → getElem? (placed b ps) k ≡ some x
+    → isSubsection (x .part .kind) ≡ true → OwnerIs (b .rows) (b .section) (placed b ps) k x
+owner-from b [] k x e s = absurd (let z : _≡_ {A = ℕ} 0 1 = cc in omega arith)
+owner-from b (p ∷ ps) zero x e s =
     let q = some-inj e in
     let sub : isSubsection (p .kind) ≡ true = ap (λ (y : Placed). isSubsection (y .part .kind)) q ∙ s in
-    let w : ℕ = elim (isSubsection (p .kind)) [ true ↦ o | false ↦ n ] in
     inl (
-      ap (λ (y : Placed). y .row .owner) (sym q) ∙ is-true (isSubsection (p .kind)) o n sub,
-      first-sub _ (placed (at + size p) (suc n) w ps) sub,
+      ap (λ (y : Placed). y .row .owner) (sym q) ∙ is-true (isSubsection (p .kind)) (b .section) (b .rows) sub,
+      first-sub _ (placed (after b p) ps) sub,
     )
-owner-from at n o (p ∷ ps) (suc k) x e s =
-    owned-behind n _ o _ (placed (at + size p) (suc n) _ ps) k x (isSubsection (p .kind)) refl refl
-    (owner-from (at + size p) (suc n) _ ps k x e s)
+owner-from b (p ∷ ps) (suc k) x e s =
+    owned-behind (b .rows) (ownerOf b p) (b .section) _ (placed (after b p) ps) k x (isSubsection (p .kind)) refl refl
+    (owner-from (after b p) ps k x e s)
 
 -- A choice begins with no subsection.
-opens : (k : ℕ) (ps : List Part) (x : Placed) → FitParts 0 ps → getElem? (placed 8 0 0 ps) k ≡ some x
-    → SubsTo (placed 8 0 0 ps) k → ⊥
+opens : (k : ℕ) (ps : List Part) (x : Placed) → FitParts 0 ps → getElem? (placed afterHeader ps) k ≡ some x
+    → SubsTo (placed afterHeader ps) k → ⊥
 opens k [] x f e h = let z : _≡_ {A = ℕ} 0 1 = cc in omega arith
 opens k (p ∷ ps) x f e h =
     let s : isSubsection (p .kind) ≡ true = h 0 _ (omega arith) refl in
@@ -119,8 +118,8 @@ opens k (p ∷ ps) x f e h =
 
 -- A subsection's owner is the last section before it.
 pub subsection-owner : (bs : List ℕ) (l : Legal bs) (k : ℕ) (x : Placed) → IsRow bs l k x
-    → isSubsection (x .part .kind) ≡ true → LastSection (placed 8 0 0 (l .parts)) (x .row .owner) k
-subsection-owner bs l k x e s = go (owner-from 8 0 0 ps k x e s)
+    → isSubsection (x .part .kind) ≡ true → LastSection (placed afterHeader (l .parts)) (x .row .owner) k
+subsection-owner bs l k x e s = go (owner-from afterHeader ps k x e s)
   where
     ps : List Part
     ps = l .parts
@@ -128,11 +127,11 @@ subsection-owner bs l k x e s = go (owner-from 8 0 0 ps k x e s)
     fit : FitParts 0 ps
     fit = let c = l .form .choice in fit-parts ps 0 (c .fit) (c .joined) (l .form .parts)
 
-    go : OwnerIs 0 0 (placed 8 0 0 ps) k x → LastSection (placed 8 0 0 ps) (x .row .owner) k
+    go : OwnerIs 0 0 (placed afterHeader ps) k x → LastSection (placed afterHeader ps) (x .row .owner) k
     go (inl h) = absurd (opens k ps x fit e (h .1))
     go (inr h) =
         let q : h .0 ≡ x .row .owner = (let i = h .1 in omega arith) in
-        subst (λ (m : ℕ). LastSection (placed 8 0 0 ps) m k) q (h .2)
+        subst (λ (m : ℕ). LastSection (placed afterHeader ps) m k) q (h .2)
 
 -- ---- a section's row covers those of its subsections
 
@@ -180,11 +179,11 @@ owner-covers bs l k x y e s f =
     let c = section-covers (l .parts) m k (y .part) (x .part) before (ry .part) (rx .part)
     (λ j r a b g.
     let n = there-lt (l .parts) j r g in
-    let w = placed-count 8 0 0 (l .parts) in
-    let t = there (placed 8 0 0 (l .parts)) j (omega arith) in
+    let w = placed-count afterHeader (l .parts) in
+    let t = there (placed afterHeader (l .parts)) j (omega arith) in
     let q : t .0 .part ≡ r = some-inj (sym (row-of bs l j (t .0) (t .1) .part) ∙ g) in
     ap (λ (v : Part). isSubsection (v .kind)) (sym q) ∙ o .behind j (t .0) a b (t .1)) in
-    let r = rising 8 (length bs) (placed 8 0 0 (l .parts)) m k y x (rows-tile bs l) before f e in
+    let r = rising 8 (length bs) (placed afterHeader (l .parts)) m k y x (rows-tile bs l) before f e in
     let lx = subsection-length bs l k x e s in
     let ly = section-length bs l m y f sec in
     let px = rx .place in

@@ -1,5 +1,5 @@
 -- A legal token has at most 300 rows: 25 times the parts are at most twice the bytes they take, and 56.
-use mathlib.Core.Path.{_≡_, refl, sym, ap, _∙_}
+use mathlib.Core.Path.{_≡_, refl, sym, ap, ap₂, _∙_}
 use mathlib.Core.Bool.{Bool, true, false, not, _||_}
 use mathlib.Core.List.{List, [], _∷_, _++_}
 use Prim.Native.Nat.{ℕ, suc, _+_, _*_, _≤_}
@@ -15,7 +15,8 @@ use Rattle.format.specs.Parts.{information, applicationData, isSubsectio
 use Rattle.format.specs.Rules.{Section, sectionsOf, sameRuleId, mayBothStand, otherKind}
 use Rattle.format.specs.Legal.{Pairwise, Legal}
 use Rattle.format.specs.Reading.{partsOf}
-use Rattle.format.specs.Table.{placed, rows}
+use Rattle.format.specs.Table.{Before, afterHeader, after, placed, rows}
+use Rattle.format.specs.declared.Row.{Row}
 use Rattle.format.proofs.Finding.{or-else, every-kind, sameKind-eq}
 use Rattle.format.proofs.Unique.{written-length}
 use Rattle.format.proofs.Grouping.{Subs, all-map}
@@ -168,6 +169,21 @@ good-pay full x ss g =
     let l = parts-least (partsOf ss) f in
     omega arith
 
+-- ---- rows, number by number
+
+-- Two rows are the same where their numbers are.
+pub row-same : (r t : Row) → r .kind ≡ t .kind → r .offset ≡ t .offset → r .length ≡ t .length → r .owner ≡ t .owner → r .rule ≡ t .rule → r ≡ t
+row-same r t k o l w n =
+    ap₂ {C = Row} (λ (x y : ℕ). record { kind = x; offset = y; length = r .length; owner = r .owner; rule = r .rule }) k o
+    ∙ ap₂ {C = Row} (λ (x y : ℕ). record { kind = t .kind; offset = t .offset; length = x; owner = y; rule = r .rule }) l w
+    ∙ ap {B = Row} (λ (x : ℕ). record { kind = t .kind; offset = t .offset; length = t .length; owner = t .owner; rule = x }) n
+
+-- So are two places.
+pub before-same : (b c : Before) → b .place ≡ c .place → b .rows ≡ c .rows → b .section ≡ c .section → b .rules ≡ c .rules → b ≡ c
+before-same b c p r o n =
+    ap₂ {C = Before} (λ (x y : ℕ). record { place = x; rows = y; section = b .section; rules = b .rules }) p r
+    ∙ ap₂ {C = Before} (λ (x y : ℕ). record { place = c .place; rows = c .rows; section = x; rules = y }) o n
+
 -- ---- the rows of a token
 
 -- A legal token has at most 300 rows.
@@ -187,10 +203,10 @@ few-rows bs l =
     omega arith
 
 -- Each part has a row.
-pub placed-count : (at n o : ℕ) (ps : List Part) → length (placed at n o ps) ≡ length ps
-placed-count at n o [] = refl
-placed-count at n o (p ∷ ps) = ap suc (placed-count (at + size p) (suc n) _ ps)
+pub placed-count : (b : Before) (ps : List Part) → length (placed b ps) ≡ length ps
+placed-count b [] = refl
+placed-count b (p ∷ ps) = ap suc (placed-count (after b p) ps)
 
 -- There are as many rows as parts.
 pub row-count : (ps : List Part) → length (rows ps) ≡ length ps
-row-count ps = length-map (placed 8 0 0 ps) (λ x. x .row) ∙ placed-count 8 0 0 ps
+row-count ps = length-map (placed afterHeader ps) (λ x. x .row) ∙ placed-count afterHeader ps

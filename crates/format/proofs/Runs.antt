@@ -10,7 +10,7 @@ use Rattle.format.specs.Bytes.{All}
 use Rattle.format.specs.Parts.{rule, sameKind, Part, size, written}
 use Rattle.format.specs.Rules.{ofKind}
 use Rattle.format.specs.Legal.{Legal, ruleCount, rulesOfAll, joined}
-use Rattle.format.specs.Table.{placed}
+use Rattle.format.specs.Table.{Before, after, placed}
 use Rattle.format.specs.Claims.{ruleRows}
 use Rattle.format.proofs.Numbers.{append-inj}
 use Rattle.format.proofs.Unique.{one-choice}
@@ -94,7 +94,7 @@ count-of-sections (p ∷ ps) = go (sameKind rule (p .kind)) (count-of-sections p
     go false e = omega arith
 
 -- And that of the rows that stand for them.
-pub count-of-rows : (at n o : ℕ) (ps : List Part) → ruleRows (map (λ x. x .row) (placed at n o ps)) ≡ ruleCount ps
-count-of-rows at n o [] = refl
-count-of-rows at n o (p ∷ ps) =
-    ap (λ (m : ℕ). elim (sameKind rule (p .kind)) as (λ c. ℕ) [ true ↦ 1 | false ↦ 0 ] + m) (count-of-rows (at + size p) (suc n) _ ps)
+pub count-of-rows : (b : Before) (ps : List Part) → ruleRows (map (λ x. x .row) (placed b ps)) ≡ ruleCount ps
+count-of-rows b [] = refl
+count-of-rows b (p ∷ ps) =
+    ap (λ (m : ℕ). elim (sameKind rule (p .kind)) as (λ c. ℕ) [ true ↦ 1 | false ↦ 0 ] + m) (count-of-rows (after b p) ps)

@@ -109,6 +109,12 @@ cramped : (bs t : List ℕ) (l : Legal bs) → length t < columns * length (rows
 unfolding need
 cramped bs t l h = legal-into bs t l ∙ rw (lt-leb (columns * length (rows (l .parts))) (length t) h)
 
+-- Room for 300 rows is room for any token's.
+pub room-for-any : (bs t : List ℕ) (l : Legal bs) → length (rows (l .parts)) ≤ 300 → 1500 ≤ length t
+    → tableAnswer bs t ≡ Accepted (length (rows (l .parts)))
+unfolding tableAnswer
+room-for-any bs t l m h = told-found rowCount (room bs t l (omega arith)) ∙ ap Accepted (counts bs l)
+
 pub table-exactly : (bs t : List ℕ) (n : ℕ) → Bytes bs
     → (tableAnswer bs t ≡ Accepted n) ↔ ((l : Legal bs) × (n ≡ length (rows (l .parts))) × (columns * n ≤ length t))
 unfolding tableAnswer tableReading

@@ -13,7 +13,7 @@ use Rattle.format.specs.Parts.{sectionId, isSubsection, kindNumber, layo
 use Rattle.format.specs.Parts.{writeParts}
 use Rattle.format.specs.Rules.{frontSubs}
 use Rattle.format.specs.Legal.{Legal}
-use Rattle.format.specs.Table.{Placed, placed}
+use Rattle.format.specs.Table.{Placed, Before, afterHeader, after, placed}
 use Rattle.format.proofs.Fitting.{Fits}
 use Rattle.format.proofs.Slots.{front-at}
 use Rattle.format.proofs.Unique.{size-any, size-pos, written-length, FitParts, fit-parts}
@@ -24,10 +24,10 @@ use Rattle.format.specs.Claims.{Tiles, IsRow, subsOf}
 
 -- ---- the rows lie one after another
 
--- The rows of parts from place `at` on end where the parts' bytes end.
-placed-tile : (at n o : ℕ) (ps : List Part) (e : ℕ) → at + sizes ps ≡ e → Tiles at (placed at n o ps) e
-placed-tile at n o [] e h = omega arith
-placed-tile at n o (p ∷ ps) e h = (refl, placed-tile (at + size p) (suc n) _ ps e (omega arith))
+-- The rows of parts end where the parts' bytes end.
+placed-tile : (b : Before) (ps : List Part) (e : ℕ) → b .place + sizes ps ≡ e → Tiles (b .place) (placed b ps) e
+placed-tile b [] e h = omega arith
+placed-tile b (p ∷ ps) e h = (refl, placed-tile (after b p) ps e (omega arith))
 
 -- After the header of a legal token stand its parts.
 behind-eight : (bs : List ℕ) (l : Legal bs) → drop 8 bs ≡ writeParts (l .parts)
@@ -42,8 +42,8 @@ token-length bs l =
     omega arith
 
 -- The rows of a legal token tile it from byte 8 to its end.
-pub rows-tile : (bs : List ℕ) (l : Legal bs) → Tiles 8 (placed 8 0 0 (l .parts)) (length bs)
-rows-tile bs l = placed-tile 8 0 0 (l .parts) (length bs) (sym (token-length bs l))
+pub rows-tile : (bs : List ℕ) (l : Legal bs) → Tiles 8 (placed afterHeader (l .parts)) (length bs)
+rows-tile bs l = placed-tile afterHeader (l .parts) (length bs) (sym (token-length bs l))
 
 -- ---- the bytes of a row
 
@@ -59,16 +59,16 @@ pub record RowOf (at : ℕ) (bs : List ℕ) (ps : List Part) (k : ℕ) (x : Plac
       ≡ write (x .row .length) (layout (x .part .kind)) (x .part .fields) ++ writeParts (drop (suc k) ps)
 
 -- The rows of parts whose bytes stand from place `at` on.
-row-from : (at n o i : ℕ) (bs : List ℕ) (ps : List Part) (k : ℕ) (x : Placed) → FitParts i ps
-    → drop at bs ≡ writeParts ps → getElem? (placed at n o ps) k ≡ some x → RowOf at bs ps k x
-row-from at n o i bs [] k x f e g = absurd (let z : _≡_ {A = ℕ} 0 1 = cc in omega arith)
-row-from at n o i bs (p ∷ ps) zero x f e g =
-    subst (RowOf at bs (p ∷ ps) zero) (some-inj g)
+row-from : (b : Before) (i : ℕ) (bs : List ℕ) (ps : List Part) (k : ℕ) (x : Placed) → FitParts i ps
+    → drop (b .place) bs ≡ writeParts ps → getElem? (placed b ps) k ≡ some x → RowOf (b .place) bs ps k x
+row-from b i bs [] k x f e g = absurd (let z : _≡_ {A = ℕ} 0 1 = cc in omega arith)
+row-from b i bs (p ∷ ps) zero x f e g =
+    subst (RowOf (b .place) bs (p ∷ ps) zero) (some-inj g)
     (record { part = refl; kind = refl; place = omega arith; long = refl; fits = f .1; bytes = e })
-row-from at n o i bs (p ∷ ps) (suc k) x f e g =
+row-from b i bs (p ∷ ps) (suc k) x f e g =
     let a = write (span p ps) (layout (p .kind)) (p .fields) in
-    let c = front-at bs at (size p) a (writeParts ps) (size-any (layout (p .kind)) (span p ps) 0 (p .fields)) e in
-    let r = row-from (at + size p) (suc n) _ (sectionId (p .kind)) bs ps k x (f .2) (c .1) g in
+    let c = front-at bs (b .place) (size p) a (writeParts ps) (size-any (layout (p .kind)) (span p ps) 0 (p .fields)) e in
+    let r = row-from (after b p) (sectionId (p .kind)) bs ps k x (f .2) (c .1) g in
     let q = r .place in
     record { part = r .part; kind = r .kind; place = omega arith; long = r .long; fits = r .fits; bytes = r .bytes }
 
@@ -77,7 +77,7 @@ pub row-of : (bs : List ℕ) (l : Legal bs) (k : ℕ) (x : Placed) → IsRow bs 
 row-of bs l k x e =
     let c = l .form .choice in
     let f = fit-parts (l .parts) 0 (c .fit) (c .joined) (l .form .parts) in
-    row-from 8 0 0 0 bs (l .parts) k x f (behind-eight bs l) e
+    row-from afterHeader 0 bs (l .parts) k x f (behind-eight bs l) e
 
 -- The subsections in front have the length that a section adds to its own.
 front-sizes : (ps : List Part) → subsectionsLength ps ≡ sizes (frontSubs ps)

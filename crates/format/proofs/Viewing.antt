@@ -19,7 +19,7 @@ use Rattle.format.specs.Parts.{layout, Part, writeParts, external}
 use Rattle.format.specs.Rules.{Section, sectionsOf}
 use Rattle.format.specs.Legal.{Legal}
 use Rattle.format.specs.Reading.{Fault, refused, found, reading, partsOf, answer}
-use Rattle.format.specs.Table.{Placed, placed}
+use Rattle.format.specs.Table.{Placed, afterHeader, placed}
 use Rattle.format.specs.Views.{slotOf, fieldAt, bytesThere, view, whetherThere, viewAnswer}
 use Rattle.format.specs.GivenNumbers.{numberOf, secondOf, offsetOf, lengthOf}
 use Rattle.format.specs.declared.Answer.the-variants.{Accepted, Refused}
@@ -64,11 +64,11 @@ ofSlot at o = elim o as (λ y. Where) [ none ↦ Missing 22 0 | some s ↦ At (a
 
 -- A legal token's fields are looked for among the rows of its parts.
 found-field : (bs : List ℕ) (l : Legal bs) (k j : ℕ)
-    → fieldAt bs k j ≡ ofRow bs j (getElem? (placed 8 0 0 (l .parts)) k)
+    → fieldAt bs k j ≡ ofRow bs j (getElem? (placed afterHeader (l .parts)) k)
 unfolding fieldAt
 found-field bs l k j =
     rw (legal-read bs l, fieldAt)
-    (ap (λ (ps : List Part). ofRow bs j (getElem? (placed 8 0 0 ps) k)) (legal-parts bs l))
+    (ap (λ (ps : List Part). ofRow bs j (getElem? (placed afterHeader ps) k)) (legal-parts bs l))
 
 -- A field of a row of a legal token lies in the slot of its part.
 field-at : (bs : List ℕ) (l : Legal bs) (k j : ℕ) (x : Placed) → IsRow bs l k x
@@ -78,8 +78,8 @@ field-at bs l k j x e = found-field bs l k j ∙ ap (ofRow bs j) e
 -- Of a row that is not there no field lies anywhere.
 no-row : (bs : List ℕ) (l : Legal bs) (k j : ℕ) → length (l .parts) ≤ k → fieldAt bs k j ≡ Missing 22 0
 no-row bs l k j h =
-    let n = placed-count 8 0 0 (l .parts) in
-    found-field bs l k j ∙ ap (ofRow bs j) (nowhere (placed 8 0 0 (l .parts)) k (omega arith))
+    let n = placed-count afterHeader (l .parts) in
+    found-field bs l k j ∙ ap (ofRow bs j) (nowhere (placed afterHeader (l .parts)) k (omega arith))
 
 -- Of an illegal token no field lies anywhere.
 pub no-token : (bs : List ℕ) (f : Fault) (k j : ℕ) → reading true bs ≡ refused f
@@ -211,7 +211,7 @@ not-at e = let z : _≡_ {A = ℕ} 0 1 = cc in omega arith
 
 -- Where a field of a legal token lies, it lies after the header and ends within the token.
 pub field-inside : (bs : List ℕ) (l : Legal bs) (k j o n : ℕ) → fieldAt bs k j ≡ At o n → (8 ≤ o) × (o + n ≤ length bs)
-field-inside bs l k j o n w = of (getElem? (placed 8 0 0 (l .parts)) k) refl
+field-inside bs l k j o n w = of (getElem? (placed afterHeader (l .parts)) k) refl
   where
     slot : (x : Placed) → IsRow bs l k x → (m : Option Slot) → getElem? (slotsOf bs x) j ≡ m
         → ofSlot (x .row .offset) m ≡ At o n → (8 ≤ o) × (o + n ≤ length bs)
@@ -225,7 +225,7 @@ field-inside bs l k j o n w = of (getElem? (placed 8 0 0 (l .parts)) k) refl
         let a = at-inj h in
         (omega (arith, a), omega (arith, a))
 
-    of : (m : Option Placed) → getElem? (placed 8 0 0 (l .parts)) k ≡ m → (8 ≤ o) × (o + n ≤ length bs)
+    of : (m : Option Placed) → getElem? (placed afterHeader (l .parts)) k ≡ m → (8 ≤ o) × (o + n ≤ length bs)
     of none e = absurd (not-at (sym w ∙ found-field bs l k j ∙ ap (ofRow bs j) e))
     of (some x) e = slot x e (getElem? (slotsOf bs x) j) refl (sym (field-at bs l k j x e) ∙ w)
 
@@ -289,12 +289,12 @@ legal-view bs k j l = row (leb (length (l .parts)) k) refl
         ((x : Placed) → IsRow bs l k x → length (layout (x .part .kind)) ≤ j)
     row true q =
         let h = leb-true (length (l .parts)) k q in
-        let n = placed-count 8 0 0 (l .parts) in
-        inr ((λ y e. absurd (let t = there-lt (placed 8 0 0 (l .parts)) k y e in omega arith)), refused-told (view-no-row bs l k j h .1))
+        let n = placed-count afterHeader (l .parts) in
+        inr ((λ y e. absurd (let t = there-lt (placed afterHeader (l .parts)) k y e in omega arith)), refused-told (view-no-row bs l k j h .1))
     row false q =
         let h = leb-false (length (l .parts)) k q in
-        let n = placed-count 8 0 0 (l .parts) in
-        let t = there (placed 8 0 0 (l .parts)) k (omega arith) in
+        let n = placed-count afterHeader (l .parts) in
+        let t = there (placed afterHeader (l .parts)) k (omega arith) in
         field (t .0) (t .1) (leb (length (layout (t .0 .part .kind))) j) refl
 
 pub view-numbers : (bs : List ℕ) (k j : ℕ) → Bytes bs

@@ -14,9 +14,9 @@ use Rattle.format.specs.Bytes.{Bytes}
 use Rattle.format.specs.Parts.{Part, size}
 use Rattle.format.specs.Legal.{Legal}
 use Rattle.format.specs.Reading.{Fault, refused, reading, answer}
-use Rattle.format.specs.Table.{Placed, placed, rows, rowNumbers}
+use Rattle.format.specs.Table.{Placed, Before, afterHeader, after, placed, rows, rowNumbers}
 use Rattle.format.specs.Views.{nextPlace, stepIn, stepAt, placeAfter}
-use Rattle.format.specs.GivenNumbers.{stepNumber, stepSecond, rowKind, rowOffset, rowLength, rowOwner, nextOf}
+use Rattle.format.specs.GivenNumbers.{stepNumber, stepSecond, rowKind, rowOffset, rowLength, rowOwner, rowRule, nextOf}
 use Rattle.format.specs.declared.Row.{Row}
 use Rattle.format.specs.declared.Step.{Step}
 use Rattle.format.specs.declared.Step.the-variants.{Record, End, Stopped}
@@ -43,14 +43,14 @@ step-legal bs l at =
 pub step-at-row : (bs : List ℕ) (l : Legal bs) (k : ℕ) (x : Placed) → IsRow bs l k x
     → stepAt bs (x .row .offset) ≡ Record (x .row) (x .row .offset + size (x .part))
 step-at-row bs l k x e =
-    step-legal bs l (x .row .offset) ∙ step-row 8 (length bs) (placed 8 0 0 (l .parts)) k x (rows-tile bs l) e
+    step-legal bs l (x .row .offset) ∙ step-row 8 (length bs) (placed afterHeader (l .parts)) k x (rows-tile bs l) e
 
 -- That place is the next row's, and after the last row the token's length.
 pub step-after-row : (bs : List ℕ) (l : Legal bs) (k : ℕ) (x : Placed) → IsRow bs l k x
     → stepAt bs (x .row .offset) ≡ Record (x .row) (nextPlace (length bs) (drop (suc k) (rows (l .parts))))
 step-after-row bs l k x e =
     step-at-row bs l k x e
-    ∙ ap (Record (x .row)) (sym (next-after 8 (length bs) (placed 8 0 0 (l .parts)) k x (rows-tile bs l) e))
+    ∙ ap (Record (x .row)) (sym (next-after 8 (length bs) (placed afterHeader (l .parts)) k x (rows-tile bs l) e))
 
 -- The first row begins at byte 8.
 pub first-place : (bs : List ℕ) (l : Legal bs) (x : Placed) → IsRow bs l 0 x → x .row .offset ≡ 8
@@ -60,18 +60,18 @@ first-place bs l x e = let p = row-of bs l 0 x e .place in omega arith
 pub step-next : (bs : List ℕ) (l : Legal bs) (k : ℕ) (x y : Placed) → IsRow bs l k x → IsRow bs l (suc k) y
     → stepAt bs (x .row .offset) ≡ Record (x .row) (y .row .offset)
 step-next bs l k x y e f =
-    let n = next-tile 8 (length bs) (placed 8 0 0 (l .parts)) k x y (rows-tile bs l) e f in
+    let n = next-tile 8 (length bs) (placed afterHeader (l .parts)) k x y (rows-tile bs l) e f in
     step-at-row bs l k x e ∙ ap (λ (m : ℕ). Record (x .row) m) (sym n)
 
 -- At the token's length the step gives the end.
 pub step-at-end : (bs : List ℕ) (l : Legal bs) → stepAt bs (length bs) ≡ End
-step-at-end bs l = step-legal bs l (length bs) ∙ step-end 8 (length bs) (placed 8 0 0 (l .parts)) (rows-tile bs l)
+step-at-end bs l = step-legal bs l (length bs) ∙ step-end 8 (length bs) (placed afterHeader (l .parts)) (rows-tile bs l)
 
 -- At any other place the step gives 22.
 pub step-nowhere : (bs : List ℕ) (l : Legal bs) (at : ℕ)
     → ((k : ℕ) (x : Placed) → IsRow bs l k x → at ≡ x .row .offset → ⊥) → (at ≡ length bs → ⊥)
     → stepAt bs at ≡ Stopped 22 0
-step-nowhere bs l at h n = step-legal bs l at ∙ step-elsewhere (length bs) (placed 8 0 0 (l .parts)) at h n
+step-nowhere bs l at h n = step-legal bs l at ∙ step-elsewhere (length bs) (placed afterHeader (l .parts)) at h n
 
 -- In an illegal token every step gives the reading's refusal.
 pub step-refused : (bs : List ℕ) (f : Fault) (at : ℕ) → reading true bs ≡ refused f
@@ -117,8 +117,8 @@ walk-rows bs (suc d) at (x ∷ xs) t s e h =
 pub walk-legal : (bs : List ℕ) (l : Legal bs) (d : ℕ) → length (l .parts) ≤ d
     → (walk d bs 8 ≡ rows (l .parts)) × (walkPlace d bs 8 ≡ length bs)
 walk-legal bs l d h =
-    let n = placed-count 8 0 0 (l .parts) in
-    walk-rows bs d 8 (placed 8 0 0 (l .parts)) (rows-tile bs l) (step-at-row bs l) (step-at-end bs l) (omega arith)
+    let n = placed-count afterHeader (l .parts) in
+    walk-rows bs d 8 (placed afterHeader (l .parts)) (rows-tile bs l) (step-at-row bs l) (step-at-end bs l) (omega arith)
 
 -- One turn more than there are rows: the walk gives the rows in order, and then the end.
 pub walk-all : (bs : List ℕ) (l : Legal bs)
@@ -134,11 +134,11 @@ pub step-numbers : (bs : List ℕ) → Bytes bs
     → ((l : Legal bs) (k : ℕ) (x : Placed) → IsRow bs l k x
     → stepNumbers (stepAt bs (x .row .offset))
     ≡ 0 ∷ 0 ∷ rowNumbers (x .row) ++ (nextPlace (length bs) (drop (suc k) (rows (l .parts))) ∷ []))
-    × (Legal bs → stepNumbers (stepAt bs (length bs)) ≡ replicate 7 0)
+    × (Legal bs → stepNumbers (stepAt bs (length bs)) ≡ replicate 8 0)
     × ((l : Legal bs) (at : ℕ) → ((k : ℕ) (x : Placed) → IsRow bs l k x → at ≡ x .row .offset → ⊥) → (at ≡ length bs → ⊥)
-    → stepNumbers (stepAt bs at) ≡ 22 ∷ replicate 6 0)
-    × ((at : ℕ) → (Legal bs → ⊥) → stepNumbers (stepAt bs at) ≡ answerNumbers (answer bs) ++ replicate 5 0)
-unfolding stepNumber stepSecond rowKind rowOffset rowLength rowOwner nextOf
+    → stepNumbers (stepAt bs at) ≡ 22 ∷ replicate 7 0)
+    × ((at : ℕ) → (Legal bs → ⊥) → stepNumbers (stepAt bs at) ≡ answerNumbers (answer bs) ++ replicate 6 0)
+unfolding stepNumber stepSecond rowKind rowOffset rowLength rowOwner rowRule nextOf
 step-numbers bs b = (
   (λ l k x r. ap stepNumbers (step-after-row bs l k x r)),
   (λ l. ap stepNumbers (step-at-end bs l)),
@@ -146,7 +146,7 @@ step-numbers bs b = (
   λ at h.
       let u = illegal bs b h in
       ap stepNumbers (step-refused bs (u .0) at (u .1))
-      ∙ ap (λ (y : List ℕ). y ++ replicate 5 0) (sym (refused-told (own-answer bs (u .0) (u .1)))),
+      ∙ ap (λ (y : List ℕ). y ++ replicate 6 0) (sym (refused-told (own-answer bs (u .0) (u .1)))),
 )
 
 -- The step with number 0 and kind 0 is that at the end, since no row has kind 0.
@@ -162,12 +162,12 @@ unfolding rowKind
 end-later true r next rest e at h i p q = absurd (omega arith)
 end-later false r next rest e at h i p q = i p q
 
-end-told : (e a n o : ℕ) (ps : List Part) (at : ℕ) → stepNumber (stepIn e (map (λ x. x .row) (placed a n o ps)) at) ≡ 0
-    → rowKind (stepIn e (map (λ x. x .row) (placed a n o ps)) at) ≡ 0 → at ≡ e
-end-told e a n o [] at p q = end-last (eqb at e) e at refl p
-end-told e a n o (c ∷ ps) at p q =
+end-told : (e : ℕ) (b : Before) (ps : List Part) (at : ℕ) → stepNumber (stepIn e (map (λ x. x .row) (placed b ps)) at) ≡ 0
+    → rowKind (stepIn e (map (λ x. x .row) (placed b ps)) at) ≡ 0 → at ≡ e
+end-told e b [] at p q = end-last (eqb at e) e at refl p
+end-told e b (c ∷ ps) at p q =
     let h = sectionId-pos (c .kind) in
-    end-later (eqb at a) _ _ _ e at (omega arith) (end-told e _ _ _ ps at) p q
+    end-later (eqb at (b .place)) _ _ _ e at (omega arith) (end-told e (after b c) ps at) p q
 
 pub step-exactly : (bs : List ℕ) (at : ℕ) → Bytes bs
     → (((stepNumber (stepAt bs at) ≡ 0) × (rowKind (stepAt bs at) ≡ 0)) ↔ (Legal bs × (at ≡ length bs)))
@@ -186,7 +186,7 @@ step-exactly bs at b = (
         → Legal bs × (at ≡ length bs)
     ended p q (inl l) =
         let s = step-legal bs l at in
-        (l, end-told (length bs) 8 0 0 (l .parts) at (sym (ap stepNumber s) ∙ p) (sym (ap rowKind s) ∙ q))
+        (l, end-told (length bs) afterHeader (l .parts) at (sym (ap stepNumber s) ∙ p) (sym (ap rowKind s) ∙ q))
     ended p q (inr w) =
         absurd (let n : w .0 .number ≡ 0 = sym (ap stepNumber (step-refused bs (w .0) at (w .1))) ∙ p in let r = fault-number true bs (w .0) (w .1) in omega (arith, r))
 

@@ -15,9 +15,9 @@ use Rattle.format.specs.Parts.{Part, isSubsection, layout, size, writePa
 use Rattle.format.specs.Rules.{Section, frontSubs, hasRequired}
 use Rattle.format.specs.Legal.{Legal}
 use Rattle.format.specs.Reading.{Fault, Outcome, found, andThen, stated, partsOf}
-use Rattle.format.specs.Table.{Placed, placed}
+use Rattle.format.specs.Table.{Placed, afterHeader, placed}
 use Rattle.format.specs.Views.{view, stepAt, placeAfter}
-use Rattle.format.specs.GivenNumbers.{numberOf, secondOf, stepNumber, stepSecond, rowKind, rowOffset, rowLength, rowOwner, nextOf}
+use Rattle.format.specs.GivenNumbers.{numberOf, secondOf, stepNumber, stepSecond, rowKind, rowOffset, rowLength, rowOwner, rowRule, nextOf}
 use Rattle.format.specs.Writer.{draftAfter, addition}
 use Rattle.format.specs.declared.Answer.{Answer}
 use Rattle.format.specs.declared.Row.{Row}
@@ -31,15 +31,16 @@ use Rattle.format.specs.declared.Step.the-variants.{Record, End, Stopped
 abbrev pub answerNumbers : Answer → List ℕ
 answerNumbers a = numberOf a ∷ secondOf a ∷ []
 
--- The numbers of a step of the walk: its two, the row's four, the next row's place. In `step-in-numbers`.
+-- The numbers of a step of the walk: its two, the row's, the next row's place. In `step-in-numbers`.
 abbrev pub stepNumbers : Step → List ℕ
-stepNumbers s = stepNumber s ∷ stepSecond s ∷ rowKind s ∷ rowOffset s ∷ rowLength s ∷ rowOwner s ∷ nextOf s ∷ []
+stepNumbers s =
+    stepNumber s ∷ stepSecond s ∷ rowKind s ∷ rowOffset s ∷ rowLength s ∷ rowOwner s ∷ rowRule s ∷ nextOf s ∷ []
 
 -- ---- rows
 
 -- Row number k of the token is x. In `row-bytes`, `owner-of-a-row`, and in what is said of views and of steps at a row.
 abbrev pub IsRow : (bs : List ℕ) → Legal bs → ℕ → Placed → Type 0
-IsRow bs l k x = getElem? (placed 8 0 0 (l .parts)) k ≡ some x
+IsRow bs l k x = getElem? (placed afterHeader (l .parts)) k ≡ some x
 
 -- The rows from place `at` on lie one after another, each as long as its part without its subsections, and end at e.
 -- In `rows-tile`.
@@ -55,6 +56,21 @@ subsOf p ps = elim (isSubsection (p .kind)) [ true ↦ [] | false ↦ frontSubs 
 -- How many of the rows are those of rules, sections 12. In `count-by-rows`.
 abbrev pub ruleRows : List Row → ℕ
 ruleRows rs = howMany (λ (r : Row). eqb 0x120000 (r .kind)) rs
+
+-- The numbers of the rules in those rows, in order. In `rules-numbered`, `last-rule-number`.
+abbrev pub ruleNumbers : List Row → List ℕ
+ruleNumbers [] = []
+ruleNumbers (r ∷ rs) = elim (eqb 0x120000 (r .kind)) [ true ↦ r .rule ∷ ruleNumbers rs | false ↦ ruleNumbers rs ]
+
+-- The n numbers that follow k: k + 1, k + 2, .. In `rules-numbered`.
+abbrev pub following : ℕ → ℕ → List ℕ
+following k zero = []
+following k (suc n) = suc k ∷ following (suc k) n
+
+-- The last of these numbers, and k where there is none. In `last-rule-number`.
+abbrev pub lastOf : ℕ → List ℕ → ℕ
+lastOf k [] = k
+lastOf k (n ∷ ns) = lastOf n ns
 
 -- ---- the views of a row
 

@@ -3,6 +3,7 @@
 -- Beside 01: "Where an answer is an enum, a definition gives this paper's number and values for every one of its cases".
 -- Where there is no row, a row's numbers are 0: so the end of the walk has kind 0, and no row has.
 use Prim.Native.Nat.{ℕ}
+use Rattle.format.specs.Table.{noRow}
 use Rattle.format.specs.declared.Answer.{Answer}
 use Rattle.format.specs.declared.Answer.the-variants.{Accepted, Refused}
 use Rattle.format.specs.declared.Row.{Row}
@@ -56,10 +57,10 @@ stepSecond (Stopped n p) = p
 -- the row of a step, and where there is none one of zeros
 abbrev pub rowOf : Step → Row
 rowOf (Record r n) = r
-rowOf End = record { kind = 0; offset = 0; length = 0; owner = 0 }
-rowOf (Stopped n p) = record { kind = 0; offset = 0; length = 0; owner = 0 }
+rowOf End = noRow
+rowOf (Stopped n p) = noRow
 
--- its four numbers
+-- its numbers
 unfoldable pub rowKind : Step → ℕ
 rowKind s = rowOf s .kind
 
@@ -71,6 +72,9 @@ rowLength s = rowOf s .length
 
 unfoldable pub rowOwner : Step → ℕ
 rowOwner s = rowOf s .owner
+
+unfoldable pub rowRule : Step → ℕ
+rowRule s = rowOf s .rule
 
 -- the place of the next row
 unfoldable pub nextOf : Step → ℕ

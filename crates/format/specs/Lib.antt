@@ -15,3 +15,4 @@ pub mod Claims
 pub mod Examples
 pub mod DateExamples
 pub mod PlaceExamples
+pub mod TableExamples

@@ -1,5 +1,5 @@
 -- The lines of the listing, each ended by a newline.
--- Beside 01: T's listing and the paragraph after it.
+-- Beside 01: T's listing and the paragraph after it. Beside 02: 108.
 use mathlib.Core.Bool.{true, false}
 use mathlib.Core.List.{List, [], _∷_, _++_, map}
 use Prim.Native.Nat.{ℕ, zero, suc, _+_, _-_, _/_, _%_}
@@ -7,6 +7,7 @@ use Prim.Native.Char.{code}
 use Prim.Native.String.{String, [] as empty, _∷_ as _followed-by_}
 use lib.Dec.{eqb, ltb}
 use lib.ListN.{length, replicate}
+use Rattle.format.specs.Table.{rowNumbers}
 use Rattle.format.specs.declared.Answer.{Answer}
 use Rattle.format.specs.declared.Answer.the-variants.{Accepted, Refused}
 use Rattle.format.specs.declared.Row.{Row}
@@ -48,18 +49,20 @@ firstLine i n (Refused number place) = text "refused " ++ decimal number ++ text
 abbrev pub tagText : ℕ → List ℕ
 tagText g = elim (eqb g 0) [ true ↦ text "-" | false ↦ hexadecimal 4 g ]
 
+-- a kind's number, as the section id in two digits and the tag
+abbrev pub kindText : ℕ → List ℕ
+kindText k = hexadecimal 2 (k / 65536) ++ text " " ++ tagText (k % 65536)
+
+-- numbers in decimal to the end of the line, a space before each
+abbrev pub decimals : List ℕ → List ℕ
+decimals [] = text "\n"
+decimals (n ∷ ns) = text " " ++ decimal n ++ decimals ns
+
+-- the numbers of a row to the end of the line: its kind and then the others
+abbrev pub rowText : List ℕ → List ℕ
+rowText [] = []
+rowText (k ∷ ns) = kindText k ++ decimals ns
+
 -- the line of a row, from its place in the table and its numbers
 unfoldable pub rowLine : ℕ → Row → List ℕ
-rowLine n r =
-    decimal n
-    ++ text " "
-    ++ hexadecimal 2 (r .kind / 65536)
-    ++ text " "
-    ++ tagText (r .kind % 65536)
-    ++ text " "
-    ++ decimal (r .offset)
-    ++ text " "
-    ++ decimal (r .length)
-    ++ text " "
-    ++ decimal (r .owner)
-    ++ text "\n"
+rowLine n r = decimal n ++ text " " ++ rowText (rowNumbers r)

@@ -10,7 +10,7 @@ use Rattle.format.specs.Bytes.{bytesAt}
 use Rattle.format.specs.Slots.{slots}
 use Rattle.format.specs.Parts.{Part, layout}
 use Rattle.format.specs.Reading.{refused, found, reading, partsOf}
-use Rattle.format.specs.Table.{placed, rows}
+use Rattle.format.specs.Table.{afterHeader, placed, rows}
 use Rattle.format.specs.declared.Answer.{Answer}
 use Rattle.format.specs.declared.Answer.the-variants.{Accepted, Refused}
 use Rattle.format.specs.declared.Row.{Row}
@@ -35,7 +35,7 @@ fieldAt bs row field =
     elim (reading true bs) [
       | refused f ↦ Missing (f .number) (f .place)
       | found ss ↦
-          elim (getElem? (placed 8 0 0 (partsOf ss)) row) [
+          elim (getElem? (placed afterHeader (partsOf ss)) row) [
             | none ↦ Missing 22 0
             | some x ↦ slotOf bs (x .row .offset) (x .part) field
           ]

@@ -3,6 +3,15 @@
 // A token is at most this long.
 pub const LONGEST: usize = 3500;
 
+// A row of the table has this many numbers.
+pub const COLUMNS: usize = 5;
+
+// A token has at most this many rows.
+pub const ROWS: usize = 300;
+
+// A table of this many numbers has room for any token: COLUMNS times ROWS.
+pub const TABLE: usize = 1500;
+
 // The answer of reading, of a view's partner question, of a line of the listing and of each call of the writer: accepted with its second number, or the refusal's number and place.
 pub enum Answer {
     Accepted(u32),
@@ -15,6 +24,7 @@ pub struct Row {
     pub offset: u32,
     pub length: u32,
     pub owner: u32,
+    pub rule: u32,
 }
 
 // What a view asks for: where a field lies in the token and how long it is, or the refusal's number and place.

@@ -1,6 +1,6 @@
 // A step of the walk as the numbers that a host program in C gets.
 ghost use mathlib.Core.Path.{_≡_};
-ghost use Rattle.format.specs.GivenNumbers.{stepNumber, rowAnswer, stepSecond, rowKind, rowOffset, rowLength, rowOwner, nextOf};
+ghost use Rattle.format.specs.GivenNumbers.{stepNumber, rowAnswer, stepSecond, rowKind, rowOffset, rowLength, rowOwner, rowRule, nextOf};
 use format::Step;
 
 // The two numbers of a step that is no row: the end, or the refusal.
@@ -24,6 +24,7 @@ pub fn give_step(
     offset: &mut u32,
     length: &mut u32,
     owner: &mut u32,
+    rule: &mut u32,
     next: &mut u32,
 ) -> u32
     ensures number { λ r. ⌜ r ≡ stepNumber s ⌝ }
@@ -32,6 +33,7 @@ pub fn give_step(
     ensures offset { λ _. ⌜ now (offset .exit) ≡ rowOffset s ⌝ }
     ensures length { λ _. ⌜ now (length .exit) ≡ rowLength s ⌝ }
     ensures owner { λ _. ⌜ now (owner .exit) ≡ rowOwner s ⌝ }
+    ensures rule { λ _. ⌜ now (rule .exit) ≡ rowRule s ⌝ }
     ensures next { λ _. ⌜ now (next .exit) ≡ nextOf s ⌝ }
 {
     let Step::Record(row, behind) = s else {
@@ -39,6 +41,7 @@ pub fn give_step(
         *offset = 0;
         *length = 0;
         *owner = 0;
+        *rule = 0;
         *next = 0;
         return give_stop(s, second);
     };
@@ -47,6 +50,7 @@ pub fn give_step(
     *offset = row.offset;
     *length = row.length;
     *owner = row.owner;
+    *rule = row.rule;
     *next = behind;
     0
 }
@@ -59,6 +63,7 @@ pub fn give_row(
     offset: &mut u32,
     length: &mut u32,
     owner: &mut u32,
+    rule: &mut u32,
     next: &mut u32,
 ) -> u32
     ensures number { λ r. ⌜ r ≡ rowAnswer s ⌝ }
@@ -67,9 +72,10 @@ pub fn give_row(
     ensures offset { λ _. ⌜ now (offset .exit) ≡ rowOffset s ⌝ }
     ensures length { λ _. ⌜ now (length .exit) ≡ rowLength s ⌝ }
     ensures owner { λ _. ⌜ now (owner .exit) ≡ rowOwner s ⌝ }
+    ensures rule { λ _. ⌜ now (rule .exit) ≡ rowRule s ⌝ }
     ensures next { λ _. ⌜ now (next .exit) ≡ nextOf s ⌝ }
 {
-    let number = give_step(s, second, kind, offset, length, owner, next);
+    let number = give_step(s, second, kind, offset, length, owner, rule, next);
     if let Step::End = s {
         return 22;
     }

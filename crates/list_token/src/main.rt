@@ -2,29 +2,33 @@
 ghost use Prim.Native.Nat.{_≤_};
 ghost use lib.ListN.{length};
 use format::Answer;
+use format::COLUMNS;
+use format::ROWS;
 use format::Row;
+use format::TABLE;
 use libc::STDIN_FILENO;
 use list_output::write_first;
 use list_output::write_row;
 use reading::read_table;
 
 // Writes the line of row n of a table.
-fn write_nth(table: &[u32; 1200], n: usize) {
-    if 300 <= n {
+fn write_nth(table: &[u32; TABLE], n: usize) {
+    if ROWS <= n {
         return;
     }
-    let i = 4 * n;
+    let i = COLUMNS * n;
     let row = Row {
         kind: table[i],
         offset: table[i + 1],
         length: table[i + 2],
         owner: table[i + 3],
+        rule: table[i + 4],
     };
     write_row(n as u32, row);
 }
 
 // Writes the lines of the first n rows of a table.
-fn write_rows(table: &[u32; 1200], n: usize) {
+fn write_rows(table: &[u32; TABLE], n: usize) {
     let mut i: usize = 0;
     while i < n {
         write_nth(table, i);
@@ -44,7 +48,7 @@ fn id_of(token: &[u8]) -> u8 {
 fn list(token: &[u8])
     requires { ⌜ length (now token) ≤ 3501 ⌝ }
 {
-    let mut table = [0u32; 1200];
+    let mut table = [0u32; TABLE];
     let answer = read_table(token, &mut table);
     let id = id_of(token);
     let length = token.len() as u32;

@@ -8,6 +8,7 @@ use Rattle.format.specs.Lines.{idText, firstLine, rowLine}
 use Rattle.format.specs.declared.Answer.{Answer}
 use Rattle.format.specs.declared.Answer.the-variants.{Accepted, Refused}
 use Rattle.format.specs.declared.Row.{Row}
+use Rattle.format.proofs.Rows.{row-same}
 use Rattle.texts.specs.Numerals.{numeral}
 use Rattle.listing.proofs.Columns.{Solid, numeral-solid, tag-solid, id-solid, columns-same}
 use Rattle.listing.proofs.Lines.{acceptedColumns, refusedColumns, rowColumns, accepted-is, refused-is, row-is}
@@ -31,29 +32,27 @@ row-solid n r = (
     numeral-solid 16 2 (r .kind / 65536) (omega arith),
     (
       tag-solid (r .kind % 65536),
-      (decimal-solid (r .offset), (decimal-solid (r .length), (decimal-solid (r .owner), tt))),
+      (decimal-solid (r .offset), (decimal-solid (r .length), (decimal-solid (r .owner), (decimal-solid (r .rule), tt)))),
     ),
   ),
 )
 
--- two lists of six that are the same have the same elements
+-- two lists of seven that are the same have the same elements
+seven-same : (a a′ b b′ c c′ d d′ e e′ f f′ g g′ : List ℕ)
+    → a ∷ b ∷ c ∷ d ∷ e ∷ f ∷ g ∷ [] ≡ a′ ∷ b′ ∷ c′ ∷ d′ ∷ e′ ∷ f′ ∷ g′ ∷ []
+    → (a ≡ a′) × (b ≡ b′) × (c ≡ c′) × (d ≡ d′) × (e ≡ e′) × (f ≡ f′) × (g ≡ g′)
+seven-same a a′ b b′ c c′ d d′ e e′ f f′ g g′ h = (cc, cc, cc, cc, cc, cc, cc)
+
+-- so do two lists of six
 six-same : (a a′ b b′ c c′ d d′ e e′ f f′ : List ℕ)
     → a ∷ b ∷ c ∷ d ∷ e ∷ f ∷ [] ≡ a′ ∷ b′ ∷ c′ ∷ d′ ∷ e′ ∷ f′ ∷ []
     → (a ≡ a′) × (b ≡ b′) × (c ≡ c′) × (d ≡ d′) × (e ≡ e′) × (f ≡ f′)
 six-same a a′ b b′ c c′ d d′ e e′ f f′ h = (cc, cc, cc, cc, cc, cc)
 
--- two rows are the same where their four numbers are
-row-same : (r t : Row) → r .kind ≡ t .kind → r .offset ≡ t .offset → r .length ≡ t .length → r .owner ≡ t .owner → r ≡ t
-row-same r t k o l w =
-    ap (λ (x : ℕ). record { kind = x; offset = r .offset; length = r .length; owner = r .owner }) k
-    ∙ ap (λ (x : ℕ). record { kind = t .kind; offset = x; length = r .length; owner = r .owner }) o
-    ∙ ap (λ (x : ℕ). record { kind = t .kind; offset = t .offset; length = x; owner = r .owner }) l
-    ∙ ap (λ (x : ℕ). record { kind = t .kind; offset = t .offset; length = t .length; owner = x }) w
-
 -- lines that are the same are of the same row at the same place
 pub rows-apart : (m n : ℕ) (r t : Row) → rowLine m r ≡ rowLine n t → (m ≡ n) × (r ≡ t)
 rows-apart m n r t h =
-    let e = six-same _ _ _ _ _ _ _ _ _ _ _ _
+    let e = seven-same _ _ _ _ _ _ _ _ _ _ _ _ _ _
     (columns-same _ _ _ _ (row-solid m r) (row-solid n t) (sym (row-is m r) ∙ h ∙ row-is n t)) in
     let k : r .kind / 65536 ≡ t .kind / 65536
     = numeral-same 16 2 (r .kind / 65536) (t .kind / 65536) (omega arith) (omega arith) (e .1) in
@@ -61,7 +60,8 @@ rows-apart m n r t h =
       decimal-same m n (e .0),
       row-same r t (omega arith) (decimal-same (r .offset) (t .offset) (e .3))
           (decimal-same (r .length) (t .length) (e .4))
-          (decimal-same (r .owner) (t .owner) (e .5)),
+          (decimal-same (r .owner) (t .owner) (e .5))
+          (decimal-same (r .rule) (t .rule) (e .6)),
     )
 
 -- ---- first lines

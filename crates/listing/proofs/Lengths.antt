@@ -66,8 +66,8 @@ refused-length i n number place p q =
 
 -- a row's line
 pub row-length : (n : ℕ) (r : Row) → n < 2 ^ 32 → r .kind < 2 ^ 32 → r .offset < 2 ^ 32 → r .length < 2 ^ 32
-    → r .owner < 2 ^ 32 → length (rowLine n r) ≤ 96
-row-length n r p k o l w =
+    → r .owner < 2 ^ 32 → r .rule < 2 ^ 32 → length (rowLine n r) ≤ 96
+row-length n r p k o l w i =
     let h : length (numeral 16 2 (r .kind / 65536)) ≤ 10
     = numeral-ten 16 2 (r .kind / 65536) (omega arith) (omega arith) (omega (arith, div-le-self (r .kind) 65536)) in
     let g : length (tagText (r .kind % 65536)) ≤ 10
@@ -81,4 +81,5 @@ row-length n r p k o l w =
       decimal-length (r .offset) o,
       decimal-length (r .length) l,
       decimal-length (r .owner) w,
+      decimal-length (r .rule) i,
     ))

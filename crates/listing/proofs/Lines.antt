@@ -2,7 +2,7 @@
 use mathlib.Core.Path.{_≡_, ap, _∙_}
 use mathlib.Core.List.{List, [], _∷_, _++_, append-assoc}
 use Prim.Native.Nat.{ℕ, _/_, _%_}
-use Rattle.format.specs.Lines.{text, decimal, hexadecimal, idText, tagText, firstLine, rowLine}
+use Rattle.format.specs.Lines.{text, decimal, hexadecimal, idText, tagText, kindText, firstLine, rowLine}
 use Rattle.format.specs.declared.Answer.the-variants.{Accepted, Refused}
 use Rattle.format.specs.declared.Row.{Row}
 use Rattle.texts.specs.Numerals.{numeral}
@@ -36,6 +36,7 @@ rowColumns n r =
     ∷ numeral 10 1 (r .offset)
     ∷ numeral 10 1 (r .length)
     ∷ numeral 10 1 (r .owner)
+    ∷ numeral 10 1 (r .rule)
     ∷ []
 
 -- the definition of the line, of any texts in the place of its numbers
@@ -52,11 +53,13 @@ unfolding columns
 refused-columns a b = simp append-assoc
 
 -- the same of the line of a row
-row-columns : (a b c d e f : List ℕ)
-    → a ++ text " " ++ b ++ text " " ++ c ++ text " " ++ d ++ text " " ++ e ++ text " " ++ f ++ text "\n"
-    ≡ columns (a ∷ b ∷ c ∷ d ∷ e ∷ f ∷ [])
+row-columns : (a b c d e f g : List ℕ)
+    → a
+    ++ text " "
+    ++ ((b ++ text " " ++ c) ++ (text " " ++ d ++ (text " " ++ e ++ (text " " ++ f ++ (text " " ++ g ++ text "\n")))))
+    ≡ columns (a ∷ b ∷ c ∷ d ∷ e ∷ f ∷ g ∷ [])
 unfolding columns
-row-columns a b c d e f = simp append-assoc
+row-columns a b c d e f g = simp append-assoc
 
 -- the first line of an accepted token has these columns
 pub accepted-is : (i n rows : ℕ) → firstLine i n (Accepted rows) ≡ columns (acceptedColumns i n rows)
@@ -77,20 +80,25 @@ refused-is i n number place =
     ∙ ap (λ (l : List ℕ). columns (text "refused" ∷ numeral 10 1 number ∷ text "at" ∷ l ∷ [])) (decimal-is place)
 
 -- columns that are the same, but for the third, which stays
-same-columns : (a a′ b b′ c d d′ e e′ f f′ : List ℕ) → a ≡ a′ → b ≡ b′ → d ≡ d′ → e ≡ e′ → f ≡ f′
-    → columns (a ∷ b ∷ c ∷ d ∷ e ∷ f ∷ []) ≡ columns (a′ ∷ b′ ∷ c ∷ d′ ∷ e′ ∷ f′ ∷ [])
-same-columns a a′ b b′ c d d′ e e′ f f′ p o q r s = cc
+same-columns : (a a′ b b′ c d d′ e e′ f f′ g g′ : List ℕ) → a ≡ a′ → b ≡ b′ → d ≡ d′ → e ≡ e′ → f ≡ f′ → g ≡ g′
+    → columns (a ∷ b ∷ c ∷ d ∷ e ∷ f ∷ g ∷ []) ≡ columns (a′ ∷ b′ ∷ c ∷ d′ ∷ e′ ∷ f′ ∷ g′ ∷ [])
+same-columns a a′ b b′ c d d′ e e′ f f′ g g′ p o q r s t = cc
 
 -- the line of a row has these
 pub row-is : (n : ℕ) (r : Row) → rowLine n r ≡ columns (rowColumns n r)
 unfolding rowLine
 row-is n r =
     row-columns (decimal n) (hexadecimal 2 (r .kind / 65536)) (tagText (r .kind % 65536)) (decimal (r .offset))
-    (decimal (r .length)) (decimal (r .owner))
-    ∙ same-columns _ _ _ _ (tagText (r .kind % 65536)) _ _ _ _ _ _ (decimal-is n) (hexadecimal-is 2 (r .kind / 65536))
-    (decimal-is (r .offset)) (decimal-is (r .length)) (decimal-is (r .owner))
+    (decimal (r .length)) (decimal (r .owner)) (decimal (r .rule))
+    ∙ same-columns _ _ _ _ (tagText (r .kind % 65536)) _ _ _ _ _ _ _ _ (decimal-is n) (hexadecimal-is 2 (r .kind / 65536))
+    (decimal-is (r .offset)) (decimal-is (r .length)) (decimal-is (r .owner)) (decimal-is (r .rule))
 
 -- ---- stored one after the other
+
+-- two columns with a space after each, and those after that
+kind-columns : (a b y : List ℕ) (ys : List (List ℕ)) → (a ++ text " " ++ b ++ (32 ∷ [])) ++ columns (y ∷ ys) ≡ columns (a ∷ b ∷ y ∷ ys)
+unfolding columns
+kind-columns a b y ys = simp append-assoc
 
 -- the last column, with a newline after it
 pub last-stored : {old new : List ℕ} {at next : ℕ} (x : List ℕ) → Stored old at (x ++ (10 ∷ [])) new next
@@ -104,3 +112,12 @@ pub column-stored : {old new last : List ℕ} {at next end : ℕ} (x y : List �
     → Stored old at (columns (x ∷ y ∷ ys)) last end
 unfolding columns
 column-stored x y ys f g = stored-as (append-assoc x (32 ∷ []) (columns (y ∷ ys))) (stored-then f g)
+
+-- a kind's two columns with a space after them, and those after that
+pub kind-stored : {old new last : List ℕ} {at next end : ℕ} (k : ℕ) (y : List ℕ) (ys : List (List ℕ))
+    → Stored old at (kindText k ++ (32 ∷ [])) new next → Stored new next (columns (y ∷ ys)) last end
+    → Stored old at (columns (numeral 16 2 (k / 65536) ∷ tagText (k % 65536) ∷ y ∷ ys)) last end
+unfolding columns
+kind-stored k y ys f g =
+    stored-as (kind-columns (hexadecimal 2 (k / 65536)) (tagText (k % 65536)) y ys
+    ∙ ap (λ (h : List ℕ). columns (h ∷ tagText (k % 65536) ∷ y ∷ ys)) (hexadecimal-is 2 (k / 65536))) (stored-then f g)

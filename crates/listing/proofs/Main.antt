@@ -28,7 +28,7 @@ same-accepted-line = accepted-apart
 -- 96 bytes, which the code calls LINE, are enough for every line of numbers of 32 bits: a row's, an accepted token's, a
 -- refused token's.
 pub row-line-fits : (n : ℕ) (r : Row) → n < 2 ^ 32 → r .kind < 2 ^ 32 → r .offset < 2 ^ 32 → r .length < 2 ^ 32
-    → r .owner < 2 ^ 32 → length (rowLine n r) ≤ 96
+    → r .owner < 2 ^ 32 → r .rule < 2 ^ 32 → length (rowLine n r) ≤ 96
 row-line-fits = row-length
 
 pub accepted-line-fits : (i n rows : ℕ) → n < 2 ^ 32 → rows < 2 ^ 32 → length (firstLine i n (Accepted rows)) ≤ 96

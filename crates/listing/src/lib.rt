@@ -10,8 +10,8 @@ use format::Answer;
 use format::Row;
 use storing::put;
 use texts::put_id;
+use texts::put_kind;
 use texts::put_number;
-use texts::put_tag;
 
 // Enough bytes for any line.
 pub const LINE: usize = 96;
@@ -47,11 +47,11 @@ fn put_row(line: &mut [u8], place: u32, row: Row) -> usize
     ensures short { λ r. ⌜ r ≤ 96 ⌝ }
 {
     let a = put_number(line, 0, place, 10, 1, b' ');
-    let b = put_number(line, a, row.kind / 65536, 16, 2, b' ');
-    let c = put_tag(line, b, row.kind % 65536);
-    let d = put_number(line, c, row.offset, 10, 1, b' ');
-    let e = put_number(line, d, row.length, 10, 1, b' ');
-    put_number(line, e, row.owner, 10, 1, b'\n')
+    let b = put_kind(line, a, row.kind);
+    let c = put_number(line, b, row.offset, 10, 1, b' ');
+    let d = put_number(line, c, row.length, 10, 1, b' ');
+    let e = put_number(line, d, row.owner, 10, 1, b' ');
+    put_number(line, e, row.rule, 10, 1, b'\n')
 }
 
 // A line that is made already, at the start of a lent buffer.

@@ -1,19 +1,19 @@
 -- The lent table: the answer, and what the table then holds.
 use mathlib.Core.Path.{_≡_, refl, sym, ap, _∙_}
 use mathlib.Core.Bool.{Bool, true, false}
-use mathlib.Core.List.{List, [], _∷_, _++_, map}
-use Prim.Native.Nat.{ℕ, suc, _+_, _*_, _<_, _≤_}
+use mathlib.Core.List.{List, [], _∷_, _++_}
+use Prim.Native.Nat.{ℕ, _+_, _*_, _<_, _≤_}
 use native.Mathlib.Omega.{arith}
 use lib.Dec.{leb}
 use lib.ListN.{length, drop}
 use lib.Seq.{sets-eq}
 use borrow.Author.Tests.{le-leb, lt-leb}
-use Rattle.format.specs.Parts.{Part}
 use Rattle.format.specs.Rules.{Section}
 use Rattle.format.specs.Reading.{Outcome, refused, found, fault, need, andThen, asAnswer, reading, partsOf, rowCount, answer}
-use Rattle.format.specs.Table.{placed, rows, tableOf, columns, tableReading, tableAnswer, tableAfter}
+use Rattle.format.specs.Table.{rows, tableOf, columns, tableReading, tableAnswer, tableAfter}
 use Rattle.format.specs.declared.Answer.the-variants.{Accepted, Refused}
 use Rattle.format.specs.declared.Row.{Row}
+use Rattle.format.proofs.Rows.{row-count}
 use Rattle.table.specs.Filling.{filled}
 pub use Rattle.fields.proofs.Sizes.{bytes-of}
 
@@ -52,7 +52,7 @@ refused-table {m} {p} s t e = go (reading true s) e
     go (found ss) w = absurd (let y : _≡_ {A = ℕ} 0 1 = cc in omega arith)
 
 -- The table is too short.
-pub short-table : {n : ℕ} (s t : List ℕ) → ReadWhole s n → length t < 4 * n → (Refused 23 n ≡ tableAnswer s t) × (t ≡ tableAfter s t)
+pub short-table : {n : ℕ} (s t : List ℕ) → ReadWhole s n → length t < columns * n → (Refused 23 n ≡ tableAnswer s t) × (t ≡ tableAfter s t)
 unfolding tableAnswer tableAfter tableReading andThen need asAnswer
 short-table {n} s t w h =
     let r = w .rows in
@@ -67,16 +67,12 @@ short-table {n} s t w h =
 
 -- ---- the rows
 
-table-long : (rs : List Row) → length (tableOf rs) ≡ 4 * length rs
+table-long : (rs : List Row) → length (tableOf rs) ≡ columns * length rs
 table-long [] = refl
 table-long (r ∷ rs) = let i = table-long rs in omega arith
 
-placed-long : (at n o : ℕ) (ps : List Part) → length (map (λ x. x .row) (placed at n o ps)) ≡ length ps
-placed-long at n o [] = refl
-placed-long at n o (p ∷ ps) = ap suc (placed-long _ _ _ ps)
-
 -- The table is filled.
-pub filled-table : {n : ℕ} {u : List ℕ} (s t : List ℕ) → ReadWhole s n → 4 * n ≤ length t → filled s t u
+pub filled-table : {n : ℕ} {u : List ℕ} (s t : List ℕ) → ReadWhole s n → columns * n ≤ length t → filled s t u
     → (Accepted n ≡ tableAnswer s t) × (u ≡ tableAfter s t)
 unfolding tableAnswer tableAfter tableReading andThen need asAnswer
 filled-table {n} {u} s t w h f =
@@ -84,7 +80,7 @@ filled-table {n} {u} s t w h f =
     let ss : List Section = w .sections in
     let b : leb (columns * length (partsOf ss)) (length t) ≡ true = le-leb (columns * length (partsOf ss)) (length t) (omega arith) in
     let l = table-long (rows (partsOf ss)) in
-    let k = placed-long 8 0 0 (partsOf ss) in
+    let k = row-count (partsOf ss) in
     let e : length (tableOf (rows (partsOf ss))) ≡ columns * rowCount ss = omega arith in
     let z : 0 + length (tableOf (rows (partsOf ss))) ≡ columns * rowCount ss = omega arith in
     let g : u ≡ tableOf (rows (partsOf ss)) ++ drop (columns * rowCount ss) t =

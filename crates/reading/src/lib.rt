@@ -7,6 +7,7 @@ ghost use Rattle.format.specs.Table.{tableAnswer, tableAfter};
 use contents::header::header;
 use contents::whole::sections_of;
 use format::Answer;
+use format::COLUMNS;
 use sections::refused;
 use table::fill;
 
@@ -22,7 +23,7 @@ pub fn read(token: &[u8]) -> Answer
 }
 
 // The same answer, and 23 with the rows needed where the table is too short for them. The rows of an accepted token are
-// in the table from its start on, four numbers each; what is after them, and on refusal all of it, is as it was.
+// in the table from its start on, five numbers each; what is after them, and on refusal all of it, is as it was.
 pub fn read_table(token: &[u8], table: &mut [u32]) -> Answer
     ensures answer { λ r. ⌜ r ≡ tableAnswer (now (token .entry)) (now (table .entry)) ⌝ }
     ensures table { λ _. ⌜ now (table .exit) ≡ tableAfter (now (token .entry)) (now (table .entry)) ⌝ }
@@ -31,7 +32,7 @@ pub fn read_table(token: &[u8], table: &mut [u32]) -> Answer
     match a {
         Answer::Refused(f, at) => Answer::Refused(f, at),
         Answer::Accepted(n) => {
-            if table.len() / 4 < n as usize {
+            if table.len() < COLUMNS * n as usize {
                 return Answer::Refused(23, n);
             }
             fill(token, table);

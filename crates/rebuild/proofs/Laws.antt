@@ -16,7 +16,7 @@ use Rattle.format.specs.Layout.{Fields}
 use Rattle.format.specs.Parts.{Kind, kinds, layout, kindNumber, Part, size, written}
 use Rattle.format.specs.Legal.{Legal}
 use Rattle.format.specs.Reading.{Outcome, found, fault, reading, asAnswer, rowCount, answer}
-use Rattle.format.specs.Table.{Placed, placed}
+use Rattle.format.specs.Table.{Placed, afterHeader, placed}
 use Rattle.format.specs.Writer.{writeAnswer, draftAfter, start, addition, finish}
 use Rattle.format.specs.Claims.{additions}
 use Rattle.format.specs.declared.Answer.{Answer}
@@ -177,8 +177,8 @@ module _ {bs : List ℕ} {n k : ℕ} (h : HasRows bs n) (lt : k < n) where
   pub next-row : (l : Legal bs) → (p : Part) × (RowOf bs k p × (drop k (l .parts) ≡ p ∷ drop (suc k) (l .parts)))
   next-row l =
       let count : length (l .parts) ≡ n = ap length (same-parts l (h .legal)) ∙ h .rows in
-      let placed-n = placed-count 8 0 0 (l .parts) in
-      let x = there (placed 8 0 0 (l .parts)) k (omega arith) in
+      let placed-n = placed-count afterHeader (l .parts) in
+      let x = there (placed afterHeader (l .parts)) k (omega arith) in
       let q = there (l .parts) k (omega arith) in
       let same : q .0 ≡ x .0 .part = some-inj (sym (q .1) ∙ row-of bs l k (x .0) (x .1) .part) in
       (x .0 .part, (record { legal = l; placed = x .0; is = x .1; part = refl }, q .2 ∙ ap (λ (p : Part). p ∷ drop (suc k) (l .parts)) same))

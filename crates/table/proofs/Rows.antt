@@ -20,7 +20,7 @@ use Rattle.format.proofs.PartForm.{Framed, part-read}
 use Rattle.format.proofs.Grouping.{none-follow, span-le, span-section}
 use Rattle.format.proofs.Sound.{fixed-made}
 use Rattle.format.proofs.Complete.{owner-holds}
-use Rattle.table.specs.Filling.{ownLength}
+use Rattle.table.specs.Places.{ownLength}
 
 -- ---- the part at p
 

@@ -3,7 +3,7 @@ ghost use mathlib.Core.Path.{_≡_};
 ghost use mathlib.Core.List.{_++_, _∷_, []};
 ghost use Prim.Native.Nat.{_+_, _<_, _≤_, max};
 ghost use lib.ListN.{length};
-ghost use Rattle.format.specs.Lines.{digitText, idText, tagText};
+ghost use Rattle.format.specs.Lines.{digitText, idText, tagText, kindText};
 ghost use Rattle.texts.specs.Numerals.{digitCount, numeral};
 ghost use Rattle.storing.specs.Storing.{Stored};
 use storing::put;
@@ -78,7 +78,7 @@ pub fn put_id(line: &mut [u8], at: usize, id: u8) -> usize
 }
 
 // A tag in four digits, - for a section, and a space after it.
-pub fn put_tag(line: &mut [u8], at: usize, tag: u32) -> usize
+fn put_tag(line: &mut [u8], at: usize, tag: u32) -> usize
     requires { ⌜ at + 11 ≤ length (now line) ⌝ }
     ensures { λ r. ⌜ Stored (now (line .entry)) at (tagText tag ++ (32 ∷ [])) (now (line .exit)) r ⌝ }
     ensures short { λ r. ⌜ r ≤ at + 11 ⌝ }
@@ -87,4 +87,14 @@ pub fn put_tag(line: &mut [u8], at: usize, tag: u32) -> usize
         return put(line, at, b"- ");
     }
     put_number(line, at, tag, 16, 4, b' ')
+}
+
+// The number of a kind, as its section id in two digits and its tag, and a space after it.
+pub fn put_kind(line: &mut [u8], at: usize, kind: u32) -> usize
+    requires { ⌜ at + 22 ≤ length (now line) ⌝ }
+    ensures { λ r. ⌜ Stored (now (line .entry)) at (kindText kind ++ (32 ∷ [])) (now (line .exit)) r ⌝ }
+    ensures short { λ r. ⌜ r ≤ at + 22 ⌝ }
+{
+    let tag = put_number(line, at, kind / 65536, 16, 2, b' ');
+    put_tag(line, tag, kind % 65536)
 }

@@ -1,7 +1,7 @@
 // The walk over the rows of a token, and a row by its number, for host programs.
 ghost use mathlib.Core.Path.{_≡_};
 ghost use Rattle.format.specs.Views.{stepAt};
-ghost use Rattle.format.specs.GivenNumbers.{stepNumber, rowAnswer, stepSecond, rowKind, rowOffset, rowLength, rowOwner, nextOf};
+ghost use Rattle.format.specs.GivenNumbers.{stepNumber, rowAnswer, stepSecond, rowKind, rowOffset, rowLength, rowOwner, rowRule, nextOf};
 ghost use Rattle.walker.specs.Walking.{stepAfter};
 use host_numbers::steps::give_row;
 use host_numbers::steps::give_step;
@@ -18,6 +18,7 @@ pub extern "C" fn tb_step(
     offset: &mut u32,
     length: &mut u32,
     owner: &mut u32,
+    rule: &mut u32,
     next: &mut u32,
 ) -> u32
     ensures number { λ r. ⌜ r ≡ stepNumber (stepAt (now (token .entry)) place) ⌝ }
@@ -26,6 +27,7 @@ pub extern "C" fn tb_step(
     ensures offset { λ _. ⌜ now (offset .exit) ≡ rowOffset (stepAt (now (token .entry)) place) ⌝ }
     ensures length { λ _. ⌜ now (length .exit) ≡ rowLength (stepAt (now (token .entry)) place) ⌝ }
     ensures owner { λ _. ⌜ now (owner .exit) ≡ rowOwner (stepAt (now (token .entry)) place) ⌝ }
+    ensures rule { λ _. ⌜ now (rule .exit) ≡ rowRule (stepAt (now (token .entry)) place) ⌝ }
     ensures next { λ _. ⌜ now (next .exit) ≡ nextOf (stepAt (now (token .entry)) place) ⌝ }
 {
     give_step(
@@ -35,6 +37,7 @@ pub extern "C" fn tb_step(
         offset,
         length,
         owner,
+        rule,
         next,
     )
 }
@@ -49,6 +52,7 @@ pub extern "C" fn tb_row(
     offset: &mut u32,
     length: &mut u32,
     owner: &mut u32,
+    rule: &mut u32,
     next: &mut u32,
 ) -> u32
     ensures number { λ r. ⌜ r ≡ rowAnswer (stepAfter (now (token .entry)) 8 row) ⌝ }
@@ -57,6 +61,7 @@ pub extern "C" fn tb_row(
     ensures offset { λ _. ⌜ now (offset .exit) ≡ rowOffset (stepAfter (now (token .entry)) 8 row) ⌝ }
     ensures length { λ _. ⌜ now (length .exit) ≡ rowLength (stepAfter (now (token .entry)) 8 row) ⌝ }
     ensures owner { λ _. ⌜ now (owner .exit) ≡ rowOwner (stepAfter (now (token .entry)) 8 row) ⌝ }
+    ensures rule { λ _. ⌜ now (rule .exit) ≡ rowRule (stepAfter (now (token .entry)) 8 row) ⌝ }
     ensures next { λ _. ⌜ now (next .exit) ≡ nextOf (stepAfter (now (token .entry)) 8 row) ⌝ }
 {
     give_row(
@@ -66,6 +71,7 @@ pub extern "C" fn tb_row(
         offset,
         length,
         owner,
+        rule,
         next,
     )
 }

@@ -7,36 +7,17 @@ use native.Mathlib.Omega.{arith}
 use lib.ListN.{length, getElem?}
 use Rattle.format.specs.Parts.{Part}
 use Rattle.format.specs.Reading.{partsOf}
-use Rattle.format.specs.Table.{Placed, placed}
+use Rattle.format.specs.Table.{Placed, Before, afterHeader, partRow, after, placed}
 use Rattle.format.specs.Views.{slotOf, fieldAt}
 use Rattle.format.specs.declared.Row.{Row}
 use Rattle.format.specs.declared.Where.{Where}
 use Rattle.format.specs.declared.Where.the-variants.{Missing}
-use Rattle.format.proofs.Unique.{size-pos}
 use Rattle.layouts.specs.Digits.{Standing, InSlot}
 use Rattle.layouts.proofs.Turns.{next-element}
-use Rattle.views.specs.Walk.{Whole, Left, Starts, Begins, ownerOf, rowOf, RowAt, Next, Behind, SameRow, Seeking}
-use Rattle.views.proofs.Places.{starts, left-length, begins, there, standing}
+use Rattle.table.proofs.Places.{left-length, begins, there}
+use Rattle.views.specs.Walk.{Whole, before, LeftAt, BeginsAt, Starts, RowAt, Behind, SameRow, Seeking}
+use Rattle.views.proofs.Places.{starts, standing}
 use Rattle.views.specs.declared.Place.{Place}
-
--- ---- the rows from a place on
-
--- At the first place they are all rows.
-pub placed-start : (p : Place) (ps : List Part) → Starts p → placed (p .at) (p .row) (p .owner) ps ≡ placed 8 0 0 ps
-placed-start p ps e =
-    ap₂ (λ (a n : ℕ). placed a n (p .owner) ps) (e .0) (e .3) ∙ ap (λ (o : ℕ). placed 8 0 o ps) (e .4)
-
--- The first of them, and those from the next place on.
-pub placed-next : {s : List ℕ} (p r : Place) (q : Part) (qs : List Part) → Next s p r q qs
-    → placed (p .at) (p .row) (p .owner) (q ∷ qs) ≡ record { row = rowOf p q qs; part = q } ∷ placed (r .at) (r .row) (r .owner) qs
-placed-next p r q qs n =
-    let x : Placed = record { row = rowOf p q qs; part = q } in
-    ap₂ (λ (a m : ℕ). x ∷ placed a m (ownerOf p q) qs) (sym (n .at)) (sym (n .row))
-    ∙ ap (λ (o : ℕ). x ∷ placed (r .at) (r .row) o qs) (sym (n .owner))
-
--- The next place lies further on.
-pub further : {s : List ℕ} {p r : Place} → Begins s p → Behind s p r → p .at < r .at
-further {s} {p} {r} w b = let n = b (w .part) (w .behind) (w .left) in omega (arith, n .at, size-pos (w .part))
 
 -- ---- the row that is looked for
 
@@ -45,7 +26,7 @@ abbrev ofRow : List ℕ → ℕ → Option Placed → Where
 ofRow s field o = elim o as (λ y. Where) [ none ↦ Missing 22 0 | some x ↦ slotOf s (x .row .offset) (x .part) field ]
 
 field-found : (s : List ℕ) (w : Whole s) (row field : ℕ)
-    → fieldAt s row field ≡ ofRow s field (getElem? (placed 8 0 0 (partsOf (w .sections))) row)
+    → fieldAt s row field ≡ ofRow s field (getElem? (placed afterHeader (partsOf (w .sections))) row)
 unfolding fieldAt
 field-found s w row field = rw (w .read, fieldAt)
 
@@ -54,27 +35,28 @@ seeks {s} {p} {row} w e = record {
   whole = w;
   parts = partsOf (w .sections);
   left = starts w e;
-  same = ap (λ (xs : List Placed). getElem? xs row) (placed-start p (partsOf (w .sections)) e);
+  same = ap (λ (b : Before). getElem? (placed b (partsOf (w .sections))) row) (e .0);
 }
 
 module _ {s : List ℕ} {row : ℕ} {p : Place} {j : ℕ} where
-  pub seek-begins : Seeking s row p j → p .at < length s → Begins s p
+  pub seek-begins : Seeking s row p j → p .at < length s → BeginsAt s p
   seek-begins w h = begins (w .parts) (w .left) h
 
   -- It stands after this part.
   pub seek-on : {r : Place} → Seeking s row p j → p .at < length s → (j ≡ 0 → ⊥) → Behind s p r → Seeking s row r (j - 1)
   seek-on {r} w h k b = go (w .parts) (w .left) (w .same)
     where
-      go : (ps : List Part) → Left s p ps → SameRow (w .whole .sections) row p j ps → Seeking s row r (j - 1)
+      go : (ps : List Part) → LeftAt s p ps → SameRow (w .whole .sections) row p j ps → Seeking s row r (j - 1)
       go [] l e = absurd (let n = left-length l in omega arith)
       go (q ∷ qs) l e =
           let n = b q qs l in
           record {
             whole = w .whole;
             parts = qs;
-            left = n .left;
-            same = next-element (record { row = rowOf p q qs; part = q }) (placed (r .at) (r .row) (r .owner) qs) j k
-                (sym (ap (λ (xs : List Placed). getElem? xs j) (placed-next p r q qs n)) ∙ e);
+            left = n .1;
+            same =
+                ap (λ (c : Before). getElem? (placed c qs) (j - 1)) (n .0)
+                ∙ next-element (record { row = partRow (before p) q qs; part = q }) (placed (after (before p) q) qs) j k e;
           }
 
   -- It is the row of this part.
@@ -87,17 +69,17 @@ module _ {s : List ℕ} {row : ℕ} {p : Place} {j : ℕ} where
       → InSlot s (p .at) (x .kind) field v → v ≡ fieldAt s row field
   seek-found {x} {field} {v} w h k e b = go (w .parts) (w .left) (w .same)
     where
-      go : (ps : List Part) → Left s p ps → SameRow (w .whole .sections) row p j ps → v ≡ fieldAt s row field
+      go : (ps : List Part) → LeftAt s p ps → SameRow (w .whole .sections) row p j ps → v ≡ fieldAt s row field
       go [] l f = absurd (let n = left-length l in omega arith)
       go (q ∷ qs) l f =
           b q (ap (λ (r : Row). r .kind) (e q qs l))
-          ∙ ap (ofRow s field) (ap (getElem? (placed (p .at) (p .row) (p .owner) (q ∷ qs))) (sym k) ∙ f)
+          ∙ ap (ofRow s field) (ap (getElem? (placed (before p) (q ∷ qs))) (sym k) ∙ f)
           ∙ sym (field-found s (w .whole) row field)
 
   -- It is not there.
   pub seek-none : (field : ℕ) → Seeking s row p j → length s ≤ p .at → Missing 22 0 ≡ fieldAt s row field
   seek-none field w h = go (w .parts) (w .left) (w .same)
     where
-      go : (ps : List Part) → Left s p ps → SameRow (w .whole .sections) row p j ps → Missing 22 0 ≡ fieldAt s row field
+      go : (ps : List Part) → LeftAt s p ps → SameRow (w .whole .sections) row p j ps → Missing 22 0 ≡ fieldAt s row field
       go [] l f = ap (ofRow s field) f ∙ sym (field-found s (w .whole) row field)
       go (q ∷ qs) l f = absurd (let a = there q qs l in omega (arith, a .ends, a .least))

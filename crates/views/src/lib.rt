@@ -1,22 +1,25 @@
 // Internal: the fields and the rows of a token that the reading accepts, found by going over its parts.
 ghost use mathlib.Core.Path.{_≡_};
 ghost use Rattle.format.specs.Views.{fieldAt, stepAt};
-ghost use Rattle.views.specs.Walk.{Whole, Starts, Begins, RowAt, Behind};
+ghost use Rattle.views.specs.Walk.{Whole, Starts, BeginsAt, RowAt, Behind};
 use fields::two;
 use format::Row;
 use format::Step;
 use format::Where;
 use layouts::slot_at;
 use table::own_length;
+use table::rule_in;
+use table::rules_with;
 
 // A place where a part of the token begins, or its end: the id, the row and the end of the section before it, and how
-// many rows come before.
+// many rows and rules come before.
 pub struct Place {
     pub at: usize,
     pub end: usize,
     pub id: u8,
     pub row: usize,
     pub owner: usize,
+    pub rules: u32,
 }
 
 // The place of the first part: no section stands before it.
@@ -29,22 +32,26 @@ fn start() -> Place
         id: 0,
         row: 0,
         owner: 0,
+        rules: 0,
     }
 }
 
 // The row of the part at this place.
 fn row_at(s: &[u8], p: Place) -> Row
-    requires { ⌜ Begins (now s) p ⌝ }
+    requires { ⌜ BeginsAt (now s) p ⌝ }
     ensures { λ r. ⌜ RowAt (now (s .entry)) p r ⌝ }
 {
     let at = p.at;
     let length = two(s, at + 2);
     if at == p.end {
+        let id = s[at];
+        let rules = rules_with(id, p.rules);
         return Row {
-            kind: s[at] as u32 * 65536,
+            kind: id as u32 * 65536,
             offset: at as u32,
             length: length as u32,
             owner: p.row as u32,
+            rule: rule_in(id, rules),
         };
     }
     Row {
@@ -52,12 +59,13 @@ fn row_at(s: &[u8], p: Place) -> Row
         offset: at as u32,
         length: length as u32,
         owner: p.owner as u32,
+        rule: rule_in(p.id, p.rules),
     }
 }
 
 // The place after the part at this one.
 fn behind(s: &[u8], p: Place) -> Place
-    requires { ⌜ Begins (now s) p ⌝ }
+    requires { ⌜ BeginsAt (now s) p ⌝ }
     ensures { λ r. ⌜ Behind (now (s .entry)) p r ⌝ }
 {
     let at = p.at;
@@ -70,6 +78,7 @@ fn behind(s: &[u8], p: Place) -> Place
             id: id,
             row: p.row + 1,
             owner: p.row,
+            rules: rules_with(id, p.rules),
         };
     }
     Place {
@@ -78,6 +87,7 @@ fn behind(s: &[u8], p: Place) -> Place
         id: p.id,
         row: p.row + 1,
         owner: p.owner,
+        rules: p.rules,
     }
 }
 

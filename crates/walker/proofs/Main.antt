@@ -15,7 +15,7 @@ use Rattle.format.specs.Bytes.{Bytes}
 use Rattle.format.specs.Legal.{Legal}
 use Rattle.format.specs.Parts.{size}
 use Rattle.format.specs.Reading.{Fault, refused, reading, answer}
-use Rattle.format.specs.Table.{Placed, placed}
+use Rattle.format.specs.Table.{Placed, afterHeader, placed}
 use Rattle.format.specs.Views.{stepAt, placeAfter}
 use Rattle.format.specs.GivenNumbers.{numberOf, rowAnswer}
 use Rattle.format.specs.declared.Step.{Step}
@@ -52,7 +52,7 @@ one-before (x ∷ xs) (suc k) y e = one-before xs k y e
 place-of-row : (bs : List ℕ) (l : Legal bs) (k : ℕ) (x : Placed) → IsRow bs l k x → walkPlace k bs 8 ≡ x .row .offset
 place-of-row bs l zero x e = sym (first-place bs l x e)
 place-of-row bs l (suc k) y f =
-    let b = one-before (placed 8 0 0 (l .parts)) k y f in
+    let b = one-before (placed afterHeader (l .parts)) k y f in
     let p = place-of-row bs l k (b .0) (b .1) in
     place-last bs 8 k
     ∙ ap (λ (a : ℕ). placeAfter a (stepAt bs a)) p
@@ -95,8 +95,8 @@ row-in-numbers bs k b = (
         ((λ e. absurd (omega arith)), λ e. h)
     of l false q =
         let h = leb-false (length (l .parts)) k q in
-        let n = placed-count 8 0 0 (l .parts) in
-        let t = there (placed 8 0 0 (l .parts)) k (omega arith) in
+        let n = placed-count afterHeader (l .parts) in
+        let t = there (placed afterHeader (l .parts)) k (omega arith) in
         let r = ap rowAnswer (behind-row bs l k (t .0) (t .1)) in
         ((λ e. (t .0, t .1)), λ e. absurd (omega arith))
 

@@ -5,11 +5,8 @@ use crate::fast::{fast_fill, fast_read};
 use crate::kinds::LONGEST;
 use crate::library;
 use crate::library_writer;
-use crate::reader::{read, Answer, Row};
+use crate::reader::{put_rows, read, Answer, Row, COLUMNS, TABLE};
 use crate::views::{fields_of, row_among, step_among, taken_apart, Step};
-
-/// Numbers of the table that is always large enough.
-const LARGE: usize = 1200;
 
 /// What a table holds before a call.
 const UNTOUCHED: u32 = 0xDEAD_BEEF;
@@ -24,7 +21,7 @@ const ROWS_NUMBERED: u32 = 9;
 /// Every reading call on these bytes.
 pub fn compare(token: &[u8]) -> Answer {
     let outcome = read(token);
-    let expected = expected(&outcome, LARGE);
+    let expected = expected(&outcome, TABLE);
     assert_eq!(library::read(token), expected, "tb_read");
     assert_eq!(fast_read(token), expected, "the optimised reader");
     compare_tables(token, &outcome);
@@ -43,30 +40,29 @@ pub fn compare(token: &[u8]) -> Answer {
 /// What the second reader answers for a table of this length.
 fn expected(outcome: &Result<Vec<Row>, Answer>, length: usize) -> Answer {
     match outcome {
-        Ok(rows) if 4 * rows.len() > length => Answer::new(23, rows.len()),
+        Ok(rows) if COLUMNS * rows.len() > length => Answer::new(23, rows.len()),
         Ok(rows) => Answer::new(0, rows.len()),
         Err(refusal) => *refusal,
     }
 }
 
-/// Tables of no numbers, one too few, exactly enough, and 1,200.
+/// Tables of no numbers, one too few, exactly enough, and 1,500.
 fn compare_tables(token: &[u8], outcome: &Result<Vec<Row>, Answer>) {
-    let enough = outcome.as_ref().map_or(8, |rows| 4 * rows.len());
-    for length in [0, enough - 1, enough, LARGE] {
+    let enough = COLUMNS * outcome.as_ref().map_or(2, Vec::len);
+    for length in [0, enough - 1, enough, TABLE] {
         let expected = expected(outcome, length);
-        let mut wanted = [UNTOUCHED; LARGE + 1];
+        let mut wanted = [UNTOUCHED; TABLE + 1];
         if let (0, Ok(rows)) = (expected.number, outcome) {
-            for (row, place) in rows.iter().zip(wanted.chunks_exact_mut(4)) {
-                place.copy_from_slice(&[row.kind, row.offset, row.length, row.owner]);
-            }
+            put_rows(rows, &mut wanted);
         }
-        let mut table = [UNTOUCHED; LARGE + 1];
+        let mut table = [UNTOUCHED; TABLE + 1];
         let given = library::read_table(token, &mut table[..length]);
         assert_eq!(given, expected, "tb_read_table, {length} numbers");
         assert!(table == wanted, "the table of {length} numbers");
-        let mut table = [UNTOUCHED; LARGE + 1];
+        let mut table = [UNTOUCHED; TABLE + 1];
         let given = fast_fill(token, &mut table[..length]);
-        assert_eq!(given, expected, "the optimised reader's table");
+        assert_eq!(given, expected, "the optimised reader");
+        assert!(table == wanted, "its table of {length} numbers");
     }
 }
 

@@ -8,7 +8,7 @@ pub mod twins;
 use std::path::{Path, PathBuf};
 use trusted_block_tests::fast::{fast_fill, fast_read};
 use trusted_block_tests::library;
-use trusted_block_tests::reader::{read_answer, read_table, Answer};
+use trusted_block_tests::reader::{read_answer, read_table, Answer, COLUMNS, TABLE};
 pub use trusted_block_tests::samples::*;
 
 const UNTOUCHED: u32 = 0xDEAD_BEEF;
@@ -88,16 +88,16 @@ pub fn read_every_way(token: &[u8]) -> Answer {
     let expected = read_answer(token);
     assert_eq!(fast_read(token), expected, "{token:02X?}");
     assert_eq!(library::read(token), expected, "{token:02X?}");
-    let mut table = [UNTOUCHED; 1300];
+    let mut table = [UNTOUCHED; TABLE + 100];
     assert_eq!(read_table(token, &mut table), expected);
-    let mut other = [UNTOUCHED; 1300];
+    let mut other = [UNTOUCHED; TABLE + 100];
     assert_eq!(fast_fill(token, &mut other), expected);
     assert_eq!(table, other);
-    let mut other = [UNTOUCHED; 1300];
+    let mut other = [UNTOUCHED; TABLE + 100];
     assert_eq!(library::read_table(token, &mut other), expected);
     assert_eq!(table, other);
     let written = match expected.number {
-        0 => 4 * expected.second as usize,
+        0 => COLUMNS * expected.second as usize,
         _ => 0,
     };
     assert!(table[..written].iter().all(|value| *value != UNTOUCHED));

@@ -10,30 +10,25 @@ use borrow.Author.Needs.{needs}
 use Rattle.reading.proofs.read.Statement.{statement}
 use Rattle.reading.proofs.read.Tie as tie
 
--- src/lib.rt:19:9
 header-requires : tie.Need-header-requires
 header-requires c κs = search needs
 
--- src/lib.rt:21:9
 returns : tie.Need-returns
 unfolding answer
 returns c =
     c .refused .ensures ∙ header-stops true (c .before .before .before .before .args .token .now) (c .before .before .header .ensures) (c .before .if1 .taken)
 
--- src/lib.rt:23:24
 shared-slice-read-sections-of : tie.Need-shared-slice-read-sections-of
 shared-slice-read-sections-of c =
     let l = header-lengths true (c .before .before .before .before .args .token .now) (c .before .before .header .ensures) (c .before .if1 .left) in
     omega (arith, l .front)
 
--- src/lib.rt:23:5
 sections-of-requires : tie.Need-sections-of-requires
 sections-of-requires c κs =
     let l = header-lengths true (c .before .before .before .before .args .token .now) (c .before .before .header .ensures) (c .before .if1 .left) in
     let w = whole-length (c .before .before .before .before .args .token .now) (c .before .before .header .ensures) (c .before .if1 .left) in
     (l .front, omega (arith, w, l .most))
 
--- src/lib.rt:16:1
 returns-2 : tie.Need-returns-2
 returns-2 c =
     let l = header-lengths true (c .before .before .before .before .before .args .token .now) (c .before .before .before .header .ensures) (c .before .before .if1 .left) in

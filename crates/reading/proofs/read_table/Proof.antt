@@ -6,23 +6,21 @@ use borrow.Author.Needs.{needs}
 use Rattle.reading.proofs.read_table.Statement.{statement}
 use Rattle.reading.proofs.read_table.Tie as tie
 
--- src/lib.rt:32:9
 read-requires : tie.Need-read-requires
 read-requires c κs = search needs
 
--- src/lib.rt:34:25
 enum-known-a : tie.Need-enum-known-a
 enum-known-a c = search needs
 
--- src/lib.rt:35:26
 enum-known-a-2 : tie.Need-enum-known-a-2
 enum-known-a-2 c = search needs
 
--- src/lib.rt:36:34
 cast-if1 : tie.Need-cast-if1
 cast-if1 c = search needs
 
--- src/lib.rt:37:17
+mul-if1 : tie.Need-mul-if1
+mul-if1 c = search needs
+
 returns : tie.Need-returns
 returns c =
     let s = c .before .before .before .before .before .before .before .args .token .now in
@@ -30,7 +28,6 @@ returns c =
     let w = accepted-read s (sym (c .before .before .a2 .given .1) ∙ c .before .before .before .before .read .ensures) in
     short-table s t w (omega (arith, c .if1 .taken))
 
--- src/lib.rt:39:13
 fill-requires : tie.Need-fill-requires
 fill-requires c κs =
     let s = c .before .before .before .before .before .before .before .before .args .token .now in
@@ -38,16 +35,13 @@ fill-requires c κs =
     let w = accepted-read s (sym (c .before .before .before .a2 .given .1) ∙ c .before .before .before .before .before .read .ensures) in
     record { sections = w .sections; bytes = bytes-of s (λ k. (c .before .before .before .before .before .before .before .shared-slice-known .given k) .fits); read = w .read; room = omega (arith, c .before .if1 .left, w .rows) }
 
--- src/lib.rt:28:1
 returns-2 : tie.Need-returns-2
 returns-2 c =
     refused-table (c .before .before .before .before .before .before .args .token .now) (c .before .before .before .before .before .before .args .table .now) (sym (c .before .a .given .1) ∙ c .before .before .before .read .ensures)
 
--- src/lib.rt:28:1
 same-length : tie.Need-same-length
 same-length c = search needs
 
--- src/lib.rt:28:1
 returns-3 : tie.Need-returns-3
 returns-3 c =
     let s = c .before .before .before .before .before .before .before .before .before .before .before .args .token .now in
@@ -63,6 +57,7 @@ read-table-spec =
     enum-known-a
     enum-known-a-2
     cast-if1
+    mul-if1
     returns
     fill-requires
     returns-2

@@ -1,5 +1,5 @@
 -- The length that a section's id tells.
-use Rattle.table.proofs.Steps.{own-twenty, own-ten, own-stated}
+use Rattle.table.proofs.Places.{own-twenty, own-ten, own-stated}
 use Rattle.table.proofs.own_length.Statement.{statement}
 use Rattle.table.proofs.own_length.Tie as tie
 

@@ -1,8 +1,10 @@
--- Four stores make the row.
+-- Five stores make the row.
 use Rattle.format.proofs.Elements.{four-sets}
 use native.Mathlib.Omega.{arith}
-use Prim.Native.Nat.{_*_}
-use lib.ListN.{length-set}
+use mathlib.Core.Path.{_≡_, ap₂}
+use mathlib.Core.List.{List}
+use Prim.Native.Nat.{ℕ, suc, _+_, _*_}
+use lib.ListN.{set, length-set}
 use borrow.Author.Needs.{needs}
 use Rattle.table.proofs.put_row.Statement.{statement}
 use Rattle.table.proofs.put_row.Tie as tie
@@ -43,11 +45,24 @@ mul-table-4 c = search needs
 slice-write-table-4 : tie.Need-slice-write-table-4
 slice-write-table-4 c = simp length-set (omega (arith, c .pre))
 
+add-table-4 : tie.Need-add-table-4
+add-table-4 c = search needs
+
+mul-table-5 : tie.Need-mul-table-5
+mul-table-5 c = search needs
+
+slice-write-table-5 : tie.Need-slice-write-table-5
+slice-write-table-5 c = simp length-set (omega (arith, c .pre))
+
 same-length : tie.Need-same-length
 same-length c = search needs
 
 returns : tie.Need-returns
-returns c = four-sets (c .args .table .now) (4 * c .args .n) (c .args .kind) (c .args .offset) (c .args .length) (c .args .owner)
+returns c =
+    let at : ℕ = 5 * c .args .n in
+    let last : at + 4 ≡ suc (suc (suc (suc at))) = omega arith in
+    ap₂ (λ (l : List ℕ) (j : ℕ). set l j (c .args .rule))
+    (four-sets (c .args .table .now) at (c .args .kind) (c .args .offset) (c .args .length) (c .args .owner)) last
 
 pub put-row-spec : {M : Type 1} → statement M
 put-row-spec =
@@ -65,5 +80,8 @@ put-row-spec =
     add-table-3
     mul-table-4
     slice-write-table-4
+    add-table-4
+    mul-table-5
+    slice-write-table-5
     same-length
     returns)

@@ -3,7 +3,8 @@ use Prim.Native.Nat.{_-_}
 use native.Mathlib.Omega.{arith}
 use lib.ListN.{length}
 use Rattle.views.specs.Walk.{Seeking}
-use Rattle.views.proofs.Searching.{further, seeks, seek-begins, seek-on, seek-stands, seek-found, seek-none}
+use Rattle.views.proofs.Searching.{seeks, seek-begins, seek-on, seek-stands, seek-found, seek-none}
+use Rattle.views.proofs.Places.{further}
 use Rattle.views.proofs.field_in.Statement.{statement}
 use Rattle.views.proofs.field_in.Tie as tie
 

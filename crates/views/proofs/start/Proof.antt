@@ -4,7 +4,7 @@ use Rattle.views.proofs.start.Statement.{statement}
 use Rattle.views.proofs.start.Tie as tie
 
 returns : tie.Need-returns
-returns c = (refl, refl, refl, refl, refl)
+returns c = (refl, refl, refl)
 
 pub start-spec : {M : Type 1} → statement M
 start-spec = tie.close (tie.spec returns)

@@ -2,7 +2,7 @@
 use Prim.Native.Nat.{_-_}
 use native.Mathlib.Omega.{arith}
 use Rattle.views.specs.Walk.{Stepping}
-use Rattle.views.proofs.Searching.{further}
+use Rattle.views.proofs.Places.{further}
 use Rattle.views.proofs.Steps.{step-past, steps, step-begins, step-there, step-on, step-nowhere, step-end, step-row}
 use Rattle.views.proofs.step_in.Statement.{statement}
 use Rattle.views.proofs.step_in.Tie as tie
@@ -50,7 +50,7 @@ cast-t9 c =
     let w = c .before .before .before .before .before .before .before .before .loop .inv in
     let b = step-there w (c .before .before .before .before .if3 .left) (c .before .before .before .if4 .left) in
     let n = c .before .before .behind2 .ensures (b .part) (b .behind) (b .left) in
-    omega (arith, n .left .front, n .left .short)
+    omega (arith, n .1 .front, n .1 .short)
 
 returns-4 : tie.Need-returns-4 Inv-loop μ-loop
 returns-4 c =

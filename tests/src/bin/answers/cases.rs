@@ -1,5 +1,6 @@
 //! A question is a word with its arguments; after `=` stands what the second
-//! reader or writer says. Bytes are written `x1E00`, a row `kind,offset,length,owner`.
+//! reader or writer says. Bytes are written `x1E00`, a row
+//! `kind,offset,length,owner,rule`.
 
 use crate::parts::Part;
 use crate::reader::{read_answer, read_draft, read_table, Answer, Row};
@@ -24,13 +25,7 @@ fn numbers(answer: Answer) -> String {
 }
 
 pub fn row_word(row: &Row) -> String {
-    let Row {
-        kind,
-        offset,
-        length,
-        owner,
-    } = row;
-    format!("{kind},{offset},{length},{owner}")
+    row.numbers().map(|number| number.to_string()).join(",")
 }
 
 /// A part as words: its kind, how many values follow, and its values, numbers

@@ -32,8 +32,10 @@ mod boundaries;
 mod cases;
 /// Tokens with counted fields of many lengths, repeated and missing parts.
 mod lengths;
-/// Table, views, walk, listing, single fields, the paper's examples.
+/// Single fields, numbers given back, the paper's examples.
 mod others;
+/// Table, views, walk, listing.
+mod rows;
 /// Tokens that the questions begin with.
 mod tokens;
 /// Drafts, starts, additions, finishes.
@@ -47,6 +49,7 @@ fn main() {
     boundaries::ask(&mut cases);
     lengths::ask(&mut cases);
     writing::ask(&mut cases);
+    rows::ask(&mut cases);
     others::ask(&mut cases);
     cases.print();
 }

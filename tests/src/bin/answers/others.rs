@@ -1,38 +1,14 @@
-//! Table, views, walk, listing, single fields, numbers given back, the paper's
-//! examples.
+//! Single fields, numbers given back, the paper's examples.
 
-use crate::cases::{hex, part_words, row_word, Cases};
+use crate::cases::{hex, row_word, Cases};
 use crate::forms::{date_exists, first_wrong, is_label_template, is_rule_id};
-use crate::kinds;
-use crate::reader::{read, Answer, Row};
+use crate::reader::{Answer, Row};
 use crate::samples::{
-    dates_with_flags, in_line, information, protection, rule, smallest_token, smallest_with,
-    token_of,
+    dates_with_flags, information, protection, rule, smallest_token, smallest_with, token_of,
 };
-use crate::tokens::{bases, every, small_drafts, spaced};
-use crate::views::{fields_of, taken_apart, view};
+use crate::tokens::spaced;
 
 pub fn ask(cases: &mut Cases) {
-    for (_, token) in bases() {
-        taken(cases, &token);
-    }
-    for token in [smallest_token(), every()] {
-        tables(cases, &token);
-        steps(cases, &token);
-        rows_of_views(cases, &token);
-        views_laid_together(cases, &token);
-    }
-    for draft in small_drafts() {
-        views(cases, &draft);
-    }
-    let mut refused = smallest_token();
-    refused[79] = 1;
-    cases.table(&refused, 9);
-    cases.view(&refused, 0, 0);
-    cases.view(&refused, 9, 9);
-    cases.step(&refused, 8);
-    cases.step(&refused, 80);
-    lines(cases);
     dates(cases);
     dates_in_tokens(cases);
     characters(cases);
@@ -40,119 +16,6 @@ pub fn ask(cases: &mut Cases) {
     given(cases);
     examples(cases);
     examples_of_dates(cases);
-}
-
-/// The token's parts, from which it is written, and its rows.
-fn taken(cases: &mut Cases, token: &[u8]) {
-    let (id, parts) = taken_apart(token).expect("it is legal");
-    let rows = read(token).expect("it is legal");
-    let parts: Vec<String> = parts.iter().map(part_words).collect();
-    let rows: Vec<String> = rows.iter().map(row_word).collect();
-    let question = format!("parts {id} {} {}", parts.len(), parts.join(" "));
-    cases.ask(&question, &format!("{} {}", hex(token), rows.join(" ")));
-}
-
-fn tables(cases: &mut Cases, token: &[u8]) {
-    let enough = 4 * read(token).expect("it is legal").len();
-    for room in [0, enough - 1, enough, enough + 3] {
-        cases.table(token, room);
-    }
-}
-
-/// Each field of the last row, and the field after the last, where the draft
-/// has all that it needs or needs only the smallest token's section.
-fn views(cases: &mut Cases, draft: &[u8]) {
-    let own = &draft[8..];
-    let token = [&[smallest_token(), own.to_vec()].concat(), draft]
-        .map(|token| in_line(token.to_vec()))
-        .into_iter()
-        .find(|token| read(token).is_ok());
-    let Some(token) = token else {
-        return;
-    };
-    let last = read(&token).expect("it is legal").len() as u32 - 1;
-    let fields = (0..)
-        .take_while(|field| view(&token, last, *field).is_ok())
-        .count();
-    for field in 0..=fields {
-        cases.view(&token, last, field as u32);
-    }
-}
-
-/// All fields of a row, which together are its bytes without its subsections;
-/// of a long token the last row's.
-fn views_laid_together(cases: &mut Cases, token: &[u8]) {
-    let rows = read(token).expect("it is legal");
-    let first = if token.len() > 100 { rows.len() - 1 } else { 0 };
-    for (index, row) in rows.iter().enumerate().skip(first) {
-        let from = row.offset as usize;
-        let to = rows
-            .get(index + 1)
-            .map_or(token.len(), |next| next.offset as usize);
-        let fields = fields_of(token, row).len();
-        let question = format!("views {} {index} {fields}", hex(token));
-        cases.ask(&question, &hex(&token[from..to]));
-    }
-}
-
-/// The first field of each row and one that no row has, the rows after the last.
-fn rows_of_views(cases: &mut Cases, token: &[u8]) {
-    let rows = read(token).expect("it is legal").len() as u32;
-    for row in 0..rows + 2 {
-        cases.view(token, row, 0);
-        cases.view(token, row, 11);
-    }
-}
-
-/// Each row's place and those beside it, the header's and the end's.
-fn steps(cases: &mut Cases, token: &[u8]) {
-    let rows = read(token).expect("it is legal");
-    for row in &rows {
-        cases.step(token, row.offset as usize);
-    }
-    for place in [0, 7, 9, token.len() - 1, token.len(), token.len() + 1] {
-        cases.step(token, place);
-    }
-}
-
-fn lines(cases: &mut Cases) {
-    for (id, length, rows) in [
-        (0x1E, 80, 2),
-        (0x1F, 80, 2),
-        (0x1E, 3500, 173),
-        (0x1F, 99, 9),
-        (0x1E, 100, 10),
-        (0x1F, 101, 11),
-    ] {
-        cases.first_line(id, length, Answer::new(0, rows));
-    }
-    for (number, place) in [(1, 0), (9, 9), (10, 10), (19, 99), (20, 100), (21, 3438)] {
-        cases.first_line(0x1E, 80, Answer::new(number, place));
-    }
-    let row = |kind, offset, length, owner| Row {
-        kind,
-        offset,
-        length,
-        owner,
-    };
-    for (place, kind) in kinds::ALL.into_iter().enumerate() {
-        cases.row_line(
-            place,
-            &row(kind, 8 + 3 * place as u32, 62, place as u32 / 2),
-        );
-    }
-    for (place, kind) in [
-        (0, 0x01_0000),
-        (9, 0x09_0009),
-        (10, 0x0A_000A),
-        (99, 0x0F_000F),
-        (100, 0x10_0010),
-        (172, 0xFF_FFFF),
-        (300, 0xA9_00FF),
-    ] {
-        cases.row_line(place, &row(kind, 3480, 20, 171));
-        cases.row_line(place, &row(kind, 9, 10, 0));
-    }
 }
 
 fn date(cases: &mut Cases, year: u16, month: u8, day: u8) {
@@ -317,15 +180,16 @@ fn given(cases: &mut Cases) {
     cases.ask("given where at 18 2", "18 2");
     cases.ask("given where missing 22 5", "0 0");
     let row = Row {
-        kind: 0x14_0001,
-        offset: 18,
-        length: 62,
+        kind: 0x12_0003,
+        offset: 100,
+        length: 12,
         owner: 3,
+        rule: 2,
     };
-    let numbers = format!("0 0 0 {} 18 62 3 80", row.kind);
-    cases.ask(&format!("given step row {} 80", row_word(&row)), &numbers);
-    cases.ask("given step end", "0 22 0 0 0 0 0 0");
-    cases.ask("given step stopped 21 18", "21 21 18 0 0 0 0 0");
+    let numbers = format!("0 0 0 {} 100 12 3 2 112", row.kind);
+    cases.ask(&format!("given step row {} 112", row_word(&row)), &numbers);
+    cases.ask("given step end", "0 22 0 0 0 0 0 0 0");
+    cases.ask("given step stopped 21 18", "21 21 18 0 0 0 0 0 0");
 }
 
 /// The starred examples of document 01, in its order.

@@ -16,6 +16,8 @@ pub fn bases() -> Vec<(&'static str, Vec<u8>)> {
         ("every", every()),
         ("key", smallest_with(&[key(513, &[1, 0, 1], &modulus(513))])),
         ("long", long()),
+        ("between", name_between_rules()),
+        ("behind", key_between_rules()),
     ]
 }
 
@@ -128,6 +130,32 @@ pub fn long() -> Vec<u8> {
     token_of(&[
         rule(b"LONG    ", &subsections),
         application_data(300),
+        information(&[protection()]),
+    ])
+}
+
+/// Three rules, between them a name, data and section 14.
+pub fn name_between_rules() -> Vec<u8> {
+    let day = [7, 0xD0, 2, 29];
+    token_of(&[
+        rule(b"A       ", &[]),
+        name(),
+        rule(b"B       ", &[variant(0), limits(0, &[])]),
+        application_data(0),
+        information(&[protection(), dates(day, day)]),
+        rule(b"C       ", &[]),
+    ])
+}
+
+/// Three rules, the second referring to the third, a key between them; a name
+/// and section 14 after them.
+pub fn key_between_rules() -> Vec<u8> {
+    token_of(&[
+        rule(b"A       ", &[]),
+        rule(b"B       ", &[subsection(2, &[&[0], b"C       "])]),
+        public_key(),
+        rule(b"C       ", &[variant(0)]),
+        name(),
         information(&[protection()]),
     ])
 }

@@ -13,12 +13,12 @@ enum-told c = search needs
 
 returns : tie.Need-returns
 returns c =
-    let s = c .before .before .before .before .before .before .before .before .before in
+    let s = c .before .before .before .before .before .before .before .before .before .before in
     (row-missing (s .args .s) (c .before .match .keys1), c .before .before .give-step .ensures .1)
 
 returns-2 : tie.Need-returns-2
 returns-2 c =
-    let s = c .before .before .before .before .before .before .before .before in
+    let s = c .before .before .before .before .before .before .before .before .before in
     (c .before .give-step .ensures .0 ∙ row-there (s .args .s) (c .match .keys2), c .before .give-step .ensures .1)
 
 pub give-row-spec : {M : Type 1} → statement M

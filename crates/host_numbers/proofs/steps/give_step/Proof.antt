@@ -1,6 +1,6 @@
 -- The numbers of each case.
 use mathlib.Core.Path.{sym, ap}
-use Rattle.format.specs.GivenNumbers.{stepNumber, stepSecond, rowKind, rowOffset, rowLength, rowOwner, nextOf}
+use Rattle.format.specs.GivenNumbers.{stepNumber, stepSecond, rowKind, rowOffset, rowLength, rowOwner, rowRule, nextOf}
 use Rattle.host_numbers.proofs.Stops.{no-row}
 use borrow.Author.Needs.{needs}
 use Rattle.host_numbers.proofs.steps.give_step.Statement.{statement}
@@ -18,10 +18,10 @@ returns c =
     (c .give-stop .ensures .0, (c .give-stop .ensures .1, z))
 
 returns-2 : tie.Need-returns-2
-unfolding stepNumber stepSecond rowKind rowOffset rowLength rowOwner nextOf
+unfolding stepNumber stepSecond rowKind rowOffset rowLength rowOwner rowRule nextOf
 returns-2 c =
     let e = c .before .s .given .1 in
-    (sym (ap stepNumber e), (sym (ap stepSecond e), (sym (ap rowKind e), (sym (ap rowOffset e), (sym (ap rowLength e), (sym (ap rowOwner e), sym (ap nextOf e)))))))
+    (sym (ap stepNumber e), (sym (ap stepSecond e), (sym (ap rowKind e), (sym (ap rowOffset e), (sym (ap rowLength e), (sym (ap rowOwner e), (sym (ap rowRule e), sym (ap nextOf e))))))))
 
 pub give-step-spec : {M : Type 1} → statement M
 give-step-spec = tie.close (tie.spec enum-known-s give-stop-requires returns returns-2)
