@@ -6,8 +6,11 @@ mod common;
 use common::folder::Folder;
 use common::project;
 use std::fs::{copy, create_dir_all, read_to_string, remove_file, write, OpenOptions};
+use std::io::ErrorKind;
 use std::path::Path;
 use std::process::{Command, Output};
+use std::thread::sleep;
+use std::time::Duration;
 
 const SOURCE: &str = "crates/fields/src/page.rt";
 
@@ -18,8 +21,21 @@ fn page(folder: &Path) -> Command {
     command
 }
 
+/// What a script gives. One that was copied just now is busy for as long as a
+/// process that another test has begun to start still holds it open.
+fn given(command: &mut Command) -> Output {
+    loop {
+        match command.output() {
+            Err(error) if error.kind() == ErrorKind::ExecutableFileBusy => {
+                sleep(Duration::from_millis(1))
+            }
+            output => return output.expect("the script runs"),
+        }
+    }
+}
+
 fn printed(folder: &Path) -> Output {
-    page(folder).output().expect("the script runs")
+    given(&mut page(folder))
 }
 
 /// What it prints where all is well.
@@ -176,9 +192,12 @@ fn from_anywhere() {
         }
         let mut command = Command::new(Path::new(name).join("page"));
         command.current_dir(&folder.0).env("CDPATH", &folder.0);
-        let given = command.output().expect("the script runs");
-        assert!(given.status.success() && given.stderr.is_empty(), "{name}");
-        assert_eq!(String::from_utf8_lossy(&given.stdout), text(), "{name}");
+        let output = given(&mut command);
+        assert!(
+            output.status.success() && output.stderr.is_empty(),
+            "{name}"
+        );
+        assert_eq!(String::from_utf8_lossy(&output.stdout), text(), "{name}");
     }
 }
 
