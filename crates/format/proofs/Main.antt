@@ -200,7 +200,7 @@ rules-numbered bs l = RuleNumbers.rules-numbered (l .parts)
 pub last-rule-number : (bs : List ℕ) (l : Legal bs) → lastOf 0 (ruleNumbers (rows (l .parts))) ≡ ruleCount (l .parts)
 last-rule-number bs l = RuleNumbers.last-number (l .parts)
 
--- a subsection has the number of its owner's row, and "elsewhere 0": a row of another section has none.
+-- a subsection has the number of its owner's row, and "elsewhere 0": so has a row of any other section.
 pub rule-of-a-row : (bs : List ℕ) (l : Legal bs) (k : ℕ) (x : Placed) → IsRow bs l k x
     → ((y : Placed) → IsRow bs l (x .row .owner) y → x .row .rule ≡ y .row .rule)
     × ((x .row .kind / 65536 ≡ 0x12 → ⊥) → x .row .rule ≡ 0)

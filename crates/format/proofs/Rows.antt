@@ -11,7 +11,7 @@ use Rattle.format.specs.Bytes.{All}
 use Rattle.format.specs.Layout.{fits}
 use Rattle.format.specs.Slots.{least}
 use Rattle.format.specs.Parts.{Kind, publicKey, rule, transportVariant, exportParameters, tokenParameters}
-use Rattle.format.specs.Parts.{information, applicationData, isSubsection, layout, sameKind, Part, size, writeParts, external}
+use Rattle.format.specs.Parts.{information, applicationData, isSubsection, layout, sameKind, Part, writeParts, external}
 use Rattle.format.specs.Rules.{Section, sectionsOf, sameRuleId, mayBothStand, otherKind}
 use Rattle.format.specs.Legal.{Pairwise, Legal}
 use Rattle.format.specs.Reading.{partsOf}

@@ -12,8 +12,7 @@ use lib.ListN.{getElem?}
 use borrow.Author.Tests.{eqb-true, ne-eqb, not-true}
 use Rattle.format.specs.Parts.{Kind, rule, sectionId, isSubsection, kindNumber, sameKind, Part, joins}
 use Rattle.format.specs.Legal.{Legal, ruleCount}
-use Rattle.format.specs.Table.{Placed, Before, afterHeader, ownerOf, rulesTo, ruleOf, after, placed, rows}
-use Rattle.format.specs.declared.Row.{Row}
+use Rattle.format.specs.Table.{Placed, Before, afterHeader, rulesTo, ruleOf, after, placed, rows}
 use Rattle.format.specs.Claims.{IsRow, ruleNumbers, following, lastOf}
 use Rattle.format.proofs.Finding.{or-else, every-kind, sameKind-eq, sectionId-pos}
 use Rattle.format.proofs.Grouping.{is-true, is-false, joins-first, joins-behind}
@@ -66,7 +65,7 @@ last-number ps = ap (lastOf 0) (rules-numbered ps) ∙ last-following 0 (ruleCou
 id-of-kind : (k : Kind) → kindNumber k / 65536 ≡ sectionId k
 id-of-kind k = eqb-true _ _ (every-kind (λ j. eqb (kindNumber j / 65536) (sectionId j)) refl k)
 
--- A row of another section has none.
+-- A row of another section has 0.
 none-from : (b : Before) (ps : List Part) (k : ℕ) (x : Placed) → getElem? (placed b ps) k ≡ some x
     → (x .row .kind / 65536 ≡ sectionId rule → ⊥) → x .row .rule ≡ 0
 none-from b [] k x e h = absurd (let z : _≡_ {A = ℕ} 0 1 = cc in omega arith)

@@ -3,11 +3,11 @@ use mathlib.Core.Path.{_≡_, refl, sym, ap, ap₂, _∙_, subst}
 use mathlib.Core.Bool.{Bool, true, false}
 use mathlib.Core.Logic.{_↔_}
 use mathlib.Core.List.{List, [], _∷_, _++_, map, append-nil}
-use Prim.Native.Nat.{ℕ, suc, _+_, _*_, _^_, _≤_, _<_}
+use Prim.Native.Nat.{ℕ, _+_, _*_, _^_, _≤_, _<_}
 use native.Mathlib.Omega.{arith}
 use lib.ListN.{length, getD, length-append, List·getD-append}
 use Rattle.format.specs.Bytes.{All}
-use Rattle.format.specs.Parts.{rule, sameKind, Part, size, written}
+use Rattle.format.specs.Parts.{rule, sameKind, Part, written}
 use Rattle.format.specs.Rules.{ofKind}
 use Rattle.format.specs.Legal.{Legal, ruleCount, rulesOfAll, joined}
 use Rattle.format.specs.Table.{Before, after, placed}

@@ -38,7 +38,7 @@ stepNumbers s =
 
 -- ---- rows
 
--- Row number k of the token is x. In `row-bytes`, `owner-of-a-row`, and in what is said of views and of steps at a row.
+-- Row number k of the token is x. In `row-bytes`, `owner-of-a-row`, `rule-of-a-row`, and in what is said of views and of steps at a row.
 abbrev pub IsRow : (bs : List ℕ) → Legal bs → ℕ → Placed → Type 0
 IsRow bs l k x = getElem? (placed afterHeader (l .parts)) k ≡ some x
 

@@ -16,7 +16,7 @@ pub record Placed : Type 0 where
   pub row : Row
   pub part : Part
 
--- where a part stands: its place, how many rows come before it, the row of the last section and how many rules
+-- where a part stands: its place, and of what comes before it how many rows, the row of the last section, how many rules
 pub record Before : Type 0 where
   pub place : ℕ
   pub rows : ℕ

@@ -9,7 +9,7 @@ use lib.ListN.{length, getD, take, drop, length-drop}
 use lib.Seq.{take-all, drop-drop}
 use borrow.Author.Tests.{ne-eqb, ltb-true, not-true}
 use Rattle.format.specs.Bytes.{Bytes, number, bytesAt}
-use Rattle.format.specs.Parts.{Kind, rule, sectionId, tag, isSubsection, kindNumber, sameKind, Part, size, subsectionsLength, span, joins, writeParts}
+use Rattle.format.specs.Parts.{Kind, rule, sectionId, tag, isSubsection, sameKind, Part, size, subsectionsLength, span, joins, writeParts}
 use Rattle.format.specs.Rules.{Section}
 use Rattle.format.specs.Reading.{found, idOf, stated, reading, partsOf}
 use Rattle.format.specs.Table.{Before, afterHeader, ownerOf, rulesTo, ruleOf, partRow, after}
@@ -56,7 +56,7 @@ pub in-no-rule : (i n : ℕ) → (i ≡ 0x12 → ⊥) → 0 ≡ ruleIn i n
 unfolding ruleIn
 in-no-rule i n h = sym (is-false (eqb i 0x12) n 0 (ne-eqb i 0x12 h))
 
--- There are at most as many rules as the section is one more.
+-- A section adds one rule at most.
 pub rules-most : (i n : ℕ) → rulesWith i n ≤ n + 1
 unfolding rulesWith
 rules-most i n = go (eqb i 0x12)

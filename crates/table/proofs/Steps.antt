@@ -9,7 +9,7 @@ use lib.ListN.{length, getD}
 use lib.Seq.{sets, length-sets}
 use borrow.Author.Tests.{eqb-true, eq-eqb, ne-eqb}
 use Rattle.format.specs.Bytes.{number, bytesAt}
-use Rattle.format.specs.Parts.{Part, size}
+use Rattle.format.specs.Parts.{Part}
 use Rattle.format.specs.Rules.{Section}
 use Rattle.format.specs.Reading.{partsOf}
 use Rattle.format.specs.Table.{Before, afterHeader, partRow, after, placed, rows, rowNumbers, tableOf}
@@ -18,7 +18,6 @@ use Rattle.format.proofs.Tests.{found-inj}
 use Rattle.format.proofs.Finding.{and-split}
 use Rattle.table.specs.Places.{ownLength, rulesWith, ruleIn, Left, Begins}
 use Rattle.table.specs.Filling.{Fillable, filled, Rest, Filling, standing, InSection, bareRule}
-use Rattle.table.proofs.Rows.{Here}
 use Rattle.table.proofs.Places.{own-twenty, in-rule, starts, left-length, there, four, section-row, sub-row, section-after, sub-after}
 
 -- ---- a turn

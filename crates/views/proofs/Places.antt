@@ -1,15 +1,14 @@
 -- Going over the parts of an accepted token by the places of the code: where it starts, the row of the part at a place, and
 -- the place after it.
-use mathlib.Core.Path.{_≡_, sym, ap, ap₂, _∙_, subst}
+use mathlib.Core.Path.{_≡_, sym, ap, subst}
 use mathlib.Core.List.{List, _∷_}
 use Prim.Native.Nat.{ℕ, _+_, _*_, _<_}
 use native.Mathlib.Omega.{arith}
 use lib.ListN.{length, getD}
 use Rattle.format.specs.Bytes.{number, bytesAt}
-use Rattle.format.specs.Parts.{kindNumber, Part, size}
+use Rattle.format.specs.Parts.{kindNumber, Part}
 use Rattle.format.specs.Reading.{partsOf}
-use Rattle.format.specs.Table.{Before, afterHeader, after}
-use Rattle.format.specs.declared.Row.{Row}
+use Rattle.format.specs.Table.{Before}
 use Rattle.format.proofs.Unique.{size-pos}
 use Rattle.table.specs.Places.{ownLength, rulesWith, ruleIn, Left}
 use Rattle.table.proofs.Places as Places

@@ -1,13 +1,13 @@
 -- The step at a place of the token: among the rows from a place on it is the same as among all.
 use mathlib.Core.Path.{_≡_, refl, sym, ap, ap₂, _∙_}
 use mathlib.Core.List.{List, [], _∷_, map}
-use Prim.Native.Nat.{ℕ, suc, _+_, _<_, _≤_}
+use Prim.Native.Nat.{ℕ, _+_, _<_, _≤_}
 use native.Mathlib.Omega.{arith}
 use lib.Dec.{eqb}
 use lib.ListN.{length, length-append}
 use borrow.Author.Tests.{eq-eqb, ne-eqb}
 use Rattle.format.specs.Layout.{write}
-use Rattle.format.specs.Parts.{Part, layout, size, span, writeParts}
+use Rattle.format.specs.Parts.{Part, layout, span, writeParts}
 use Rattle.format.specs.Reading.{partsOf}
 use Rattle.format.specs.Table.{Placed, Before, afterHeader, partRow, after, placed, rows}
 use Rattle.format.specs.Views.{nextPlace, stepIn, stepAt}
