@@ -41,7 +41,7 @@ pub fn missing(root: &Path, document: &str, text: &str) -> Vec<String> {
     check.missing.into_iter().map(shown).collect()
 }
 
-/// Whether the word stands in a list such as crates/reading, lookup, walker.
+/// Whether the word stands in a list such as crates/reading, views, walker.
 fn in_list_of_crates(words: &[Word], at: usize) -> bool {
     if at < 2 || !words[at - 1].is(",") || words[at].ticked || is_path(words[at].text) {
         return false;

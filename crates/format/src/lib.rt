@@ -1,4 +1,5 @@
-// The types that answers are made of; in the definitions each u32 is a natural number, ℕ. The definitions of the format stand in specs/, the theorems about them in proofs/.
+// Public: the types that answers are made of, and the limits; in the definitions each u32 is a natural number, ℕ. The definitions of
+// the format stand in specs/, the theorems about them in proofs/.
 
 // A token is at most this long.
 pub const LONGEST: usize = 3500;

@@ -1,4 +1,4 @@
-// Reads one token from standard input, at most 3,501 bytes, and writes its listing to standard output.
+// Program: reads one token from standard input, at most 3,501 bytes, and writes its listing to standard output.
 ghost use Prim.Native.Nat.{_≤_};
 ghost use lib.ListN.{length};
 use format::Answer;

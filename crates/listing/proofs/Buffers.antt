@@ -11,10 +11,10 @@ use lib.ListN.{length, drop}
 use borrow.Author.Tests.{le-leb, lt-leb}
 use Rattle.format.specs.declared.Answer.the-variants.{Accepted, Refused}
 use Rattle.format.proofs.Grouping.{is-true, is-false}
-use Rattle.storing.specs.Storing.{Stored}
-use Rattle.storing.proofs.Stores.{sets-front}
+use Rattle.write_bytes.specs.Storing.{Stored}
+use Rattle.write_bytes.proofs.Stores.{sets-front}
 use Rattle.listing.specs.Buffers.{lineAnswer, lineIn}
-use Rattle.texts.proofs.Digits.{below-or-not}
+use Rattle.list_words.proofs.Digits.{below-or-not}
 
 -- the buffer has no room for the line, or it has
 pub no-room : (line old : List ℕ) → length old < length line

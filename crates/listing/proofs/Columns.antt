@@ -7,10 +7,10 @@ use native.Mathlib.Omega.{arith}
 use lib.Dec.{eqb, ltb}
 use Rattle.format.specs.Bytes.{All}
 use Rattle.format.specs.Lines.{text, digitText, idText, tagText, hexadecimal}
-use Rattle.texts.specs.Numerals.{digitCount, numeral}
-use Rattle.texts.proofs.Digits.{lastDigits}
+use Rattle.list_words.specs.Numerals.{digitCount, numeral}
+use Rattle.list_words.proofs.Digits.{lastDigits}
 use Rattle.listing.proofs.Lines.{columns}
-use Rattle.texts.proofs.Numerals.{numeral-last, hexadecimal-is}
+use Rattle.list_words.proofs.Numerals.{numeral-last, hexadecimal-is}
 
 -- no character is a space or a newline
 abbrev pub Solid : List ℕ → Type 0

@@ -10,9 +10,9 @@ use lib.ListN.{length, length-append}
 use Rattle.format.specs.Lines.{text, idText, tagText, hexadecimal, firstLine, rowLine}
 use Rattle.format.specs.declared.Answer.the-variants.{Accepted, Refused}
 use Rattle.format.specs.declared.Row.{Row}
-use Rattle.texts.specs.Numerals.{numeral}
+use Rattle.list_words.specs.Numerals.{numeral}
 use Rattle.listing.proofs.Lines.{columns, acceptedColumns, refusedColumns, rowColumns, accepted-is, refused-is, row-is}
-use Rattle.texts.proofs.Numerals.{numeral-ten, hexadecimal-is}
+use Rattle.list_words.proofs.Numerals.{numeral-ten, hexadecimal-is}
 
 -- the bytes of columns, each with the one after it
 abbrev total : List (List ℕ) → ℕ

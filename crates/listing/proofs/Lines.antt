@@ -5,10 +5,10 @@ use Prim.Native.Nat.{ℕ, _/_, _%_}
 use Rattle.format.specs.Lines.{text, decimal, hexadecimal, idText, tagText, kindText, firstLine, rowLine}
 use Rattle.format.specs.declared.Answer.the-variants.{Accepted, Refused}
 use Rattle.format.specs.declared.Row.{Row}
-use Rattle.texts.specs.Numerals.{numeral}
-use Rattle.storing.specs.Storing.{Stored}
-use Rattle.texts.proofs.Numerals.{decimal-is, hexadecimal-is}
-use Rattle.storing.proofs.Stores.{stored-as, stored-then}
+use Rattle.list_words.specs.Numerals.{numeral}
+use Rattle.write_bytes.specs.Storing.{Stored}
+use Rattle.list_words.proofs.Numerals.{decimal-is, hexadecimal-is}
+use Rattle.write_bytes.proofs.Stores.{stored-as, stored-then}
 
 -- columns with a space between them and a newline after the last
 unfoldable pub columns : List (List ℕ) → List ℕ

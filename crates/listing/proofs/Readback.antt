@@ -9,11 +9,11 @@ use native.Mathlib.Omega.{arith}
 use lib.Dec.{ltb}
 use borrow.Author.Tests.{lt-ltb, le-ltb}
 use Rattle.format.specs.Lines.{digitText, tagText}
-use Rattle.texts.specs.Numerals.{digitCount, numeral}
+use Rattle.list_words.specs.Numerals.{digitCount, numeral}
 use Rattle.format.proofs.Grouping.{is-true, is-false}
-use Rattle.texts.proofs.Digits.{below-or-not, lastDigits, quotient-below}
-use Rattle.texts.proofs.Words.{tag-is}
-use Rattle.texts.proofs.Numerals.{count-holds, numeral-last}
+use Rattle.list_words.proofs.Digits.{below-or-not, lastDigits, quotient-below}
+use Rattle.list_words.proofs.Words.{tag-is}
+use Rattle.list_words.proofs.Numerals.{count-holds, numeral-last}
 
 -- the digit that a character stands for
 digitOf : ℕ → ℕ

@@ -5,13 +5,13 @@ ghost use Prim.Native.Nat.{_≤_};
 ghost use lib.ListN.{length};
 ghost use Rattle.format.specs.Lines.{firstLine, rowLine};
 ghost use Rattle.listing.specs.Buffers.{lineAnswer, lineIn};
-ghost use Rattle.storing.specs.Storing.{Stored};
+ghost use Rattle.write_bytes.specs.Storing.{Stored};
 use format::Answer;
 use format::Row;
-use storing::put;
-use texts::put_id;
-use texts::put_kind;
-use texts::put_number;
+use list_words::put_id;
+use list_words::put_kind;
+use list_words::put_number;
+use write_bytes::put;
 
 // Enough bytes for any line.
 pub const LINE: usize = 96;

@@ -19,7 +19,7 @@ use Rattle.format.proofs.Viewing.{no-token, field-inside}
 use Rattle.format.proofs.Walking.{step-refused}
 use Rattle.format.proofs.Where.{the-type}
 use Rattle.reading.proofs.Filled.{accepted-read, bytes-of}
-use Rattle.views.specs.Walk.{Whole}
+use Rattle.view_rows.specs.Walk.{Whole}
 
 -- An accepted token is whole.
 pub whole : {n : ℕ} (s : List ℕ) → Accepted n ≡ answer s → ((k : ℕ) → getD s k 0 < 256) → Whole s

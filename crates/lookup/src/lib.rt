@@ -1,12 +1,12 @@
-// The fields of a token by row and number, and the walk over its rows. Any bytes, row, field and place may be asked.
+// Public: the fields of a token by row and number, and the walk over its rows. Any bytes, row, field and place may be asked.
 ghost use mathlib.Core.Path.{_≡_};
 ghost use Rattle.format.specs.Views.{fieldAt, stepAt};
 use format::Answer;
 use format::Step;
 use format::Where;
 use reading::read;
-use views::field_in;
-use views::step_in;
+use view_rows::field_in;
+use view_rows::step_in;
 
 // Where the field of a row lies in the token, or the refusal: the token's own, or 22.
 pub fn field_at(token: &[u8], row: u32, field: u32) -> Where

@@ -14,8 +14,8 @@ use Rattle.format.specs.Table.{rows, tableOf, columns, tableReading, tableAnswe
 use Rattle.format.specs.declared.Answer.the-variants.{Accepted, Refused}
 use Rattle.format.specs.declared.Row.{Row}
 use Rattle.format.proofs.Rows.{row-count}
-use Rattle.table.specs.Filling.{filled}
-pub use Rattle.fields.proofs.Sizes.{bytes-of}
+use Rattle.read_rows.specs.Filling.{filled}
+pub use Rattle.read_fields.proofs.Sizes.{bytes-of}
 
 -- An accepted answer comes from a reading that found its sections.
 pub record ReadWhole (s : List ℕ) (n : ℕ) : Type 0 where

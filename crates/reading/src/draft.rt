@@ -2,11 +2,11 @@
 ghost use mathlib.Core.Path.{_≡_};
 ghost use mathlib.Core.Bool.{false};
 ghost use Rattle.format.specs.Reading.{reading, rowCount, asAnswer};
-use contents::header::header;
-use contents::whole::sections_of;
-use fields::two;
 use format::Answer;
-use sections::refused;
+use read_fields::two;
+use read_sections::refused;
+use read_token::header::header;
+use read_token::whole::sections_of;
 
 // The answer of reading a lent draft: 0 and the rows of its parts, or the first fault and its place.
 pub fn read_draft(draft: &[u8]) -> Answer

@@ -1,15 +1,15 @@
-// The reading of a token: its answer, and its rows into a lent table. The public calls ask nothing.
+// Public: the reading of a token, its answer, and its rows into a lent table. The calls ask nothing.
 pub mod draft; // draft.rt: the reading of a draft
 
 ghost use mathlib.Core.Path.{_≡_};
 ghost use Rattle.format.specs.Reading.{answer};
 ghost use Rattle.format.specs.Table.{tableAnswer, tableAfter};
-use contents::header::header;
-use contents::whole::sections_of;
 use format::Answer;
 use format::COLUMNS;
-use sections::refused;
-use table::fill;
+use read_rows::fill;
+use read_sections::refused;
+use read_token::header::header;
+use read_token::whole::sections_of;
 
 // The answer for any bytes: 0 and the rows of a legal token, or the first fault and its place.
 pub fn read(token: &[u8]) -> Answer

@@ -40,7 +40,7 @@ use Rattle.format.proofs.Unique.{one-choice}
 use Rattle.format.proofs.Writing as Writing
 use Rattle.format.proofs.Viewing.{fields-viewed, read-parts}
 use Rattle.reading.proofs.Filled.{accepted-read}
-use Rattle.longer_drafts.proofs.Outcomes.{told-refused, refused-written, found-written}
+use Rattle.write_appended_part.proofs.Outcomes.{told-refused, refused-written, found-written}
 use Rattle.walker.specs.Walking.{stepAfter}
 use Rattle.walker.proofs.Main.{behind-row}
 use Rattle.writer.specs.Runs.{Call}

@@ -17,7 +17,7 @@ pub(crate) fn public_key(token: &[u8], row: u32, draft: &mut [u8]) -> Answer
     let exponent = view(token, row, 7);
     let modulus = view(token, row, 8);
     let flags = four_of(token, row, 9);
-    long_section_writer::public_key(draft, bits, exponent, modulus, flags)
+    add_key_and_data::public_key(draft, bits, exponent, modulus, flags)
 }
 
 // Section 12.
@@ -31,7 +31,7 @@ pub(crate) fn rule(token: &[u8], row: u32, draft: &mut [u8]) -> Answer
     let check = one_of(token, row, 6);
     let symmetric = one_of(token, row, 7);
     let asymmetric = one_of(token, row, 8);
-    section_writer::rule(draft, id, flags, generated, check, symmetric, asymmetric)
+    add_fixed_sections::rule(draft, id, flags, generated, check, symmetric, asymmetric)
 }
 
 // Section 13.
@@ -40,7 +40,7 @@ pub(crate) fn name(token: &[u8], row: u32, draft: &mut [u8]) -> Answer
     ensures { λ r. ⌜ AddsViews (now (token .entry)) row Parts.name (now (draft .entry)) r (now (draft .exit)) ⌝ }
 {
     let name = view(token, row, 3);
-    section_writer::name(draft, name)
+    add_fixed_sections::name(draft, name)
 }
 
 // Section 14.
@@ -49,7 +49,7 @@ pub(crate) fn information(token: &[u8], row: u32, draft: &mut [u8]) -> Answer
     ensures { λ r. ⌜ AddsViews (now (token .entry)) row Parts.information (now (draft .entry)) r (now (draft .exit)) ⌝ }
 {
     let flags = four_of(token, row, 4);
-    section_writer::information(draft, flags)
+    add_fixed_sections::information(draft, flags)
 }
 
 // Section 15.
@@ -58,5 +58,5 @@ pub(crate) fn application_data(token: &[u8], row: u32, draft: &mut [u8]) -> Answ
     ensures { λ r. ⌜ AddsViews (now (token .entry)) row Parts.applicationData (now (draft .entry)) r (now (draft .exit)) ⌝ }
 {
     let data = view(token, row, 4);
-    long_section_writer::application_data(draft, data)
+    add_key_and_data::application_data(draft, data)
 }

@@ -13,7 +13,7 @@ pub(crate) fn transport_variant(token: &[u8], row: u32, draft: &mut [u8]) -> Ans
     ensures { λ r. ⌜ AddsViews (now (token .entry)) row Parts.transportVariant (now (draft .entry)) r (now (draft .exit)) ⌝ }
 {
     let variant = view(token, row, 5);
-    subsection_writer::transport_variant(draft, variant)
+    add_variant_and_references::transport_variant(draft, variant)
 }
 
 // 12/0002.
@@ -22,7 +22,7 @@ pub(crate) fn transport_rule(token: &[u8], row: u32, draft: &mut [u8]) -> Answer
     ensures { λ r. ⌜ AddsViews (now (token .entry)) row Parts.transportRule (now (draft .entry)) r (now (draft .exit)) ⌝ }
 {
     let id = view(token, row, 4);
-    subsection_writer::transport_rule(draft, id)
+    add_variant_and_references::transport_rule(draft, id)
 }
 
 // 12/0003.
@@ -34,7 +34,7 @@ pub(crate) fn export_parameters(token: &[u8], row: u32, draft: &mut [u8]) -> Ans
     let maximum = one_of(token, row, 6);
     let variant = view(token, row, 8);
     let vector = view(token, row, 10);
-    export_writer::export_parameters(draft, minimum, maximum, variant, vector)
+    add_export_parameters::export_parameters(draft, minimum, maximum, variant, vector)
 }
 
 // 12/0004.
@@ -43,7 +43,7 @@ pub(crate) fn source_rule(token: &[u8], row: u32, draft: &mut [u8]) -> Answer
     ensures { λ r. ⌜ AddsViews (now (token .entry)) row Parts.sourceRule (now (draft .entry)) r (now (draft .exit)) ⌝ }
 {
     let id = view(token, row, 4);
-    subsection_writer::source_rule(draft, id)
+    add_variant_and_references::source_rule(draft, id)
 }
 
 // 12/0005.
@@ -54,7 +54,7 @@ pub(crate) fn token_parameters(token: &[u8], row: u32, draft: &mut [u8]) -> Answ
     let mask = view(token, row, 6);
     let template = view(token, row, 7);
     let label = view(token, row, 9);
-    template_writer::token_parameters(draft, mask, template, label)
+    add_token_parameters::token_parameters(draft, mask, template, label)
 }
 
 // 14/0001.
@@ -65,7 +65,7 @@ pub(crate) fn protection(token: &[u8], row: u32, draft: &mut [u8]) -> Answer
     let mac_key = view(token, row, 4);
     let mac = view(token, row, 5);
     let mkvp = view(token, row, 6);
-    information_writer::protection(draft, mac_key, mac, mkvp)
+    add_protection_and_dates::protection(draft, mac_key, mac, mkvp)
 }
 
 // 14/0002.
@@ -76,5 +76,5 @@ pub(crate) fn dates(token: &[u8], row: u32, draft: &mut [u8]) -> Answer
     let flags = two_of(token, row, 4);
     let activation = view(token, row, 5);
     let expiration = view(token, row, 6);
-    information_writer::dates(draft, flags, activation, expiration)
+    add_protection_and_dates::dates(draft, flags, activation, expiration)
 }

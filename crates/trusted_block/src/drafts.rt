@@ -2,7 +2,7 @@
 ghost use mathlib.Core.Path.{_≡_};
 ghost use Rattle.format.specs.Writer.{writeAnswer, draftAfter, start, finish};
 ghost use Rattle.format.specs.GivenNumbers.{numberOf, secondOf};
-use host_numbers::give;
+use trusted_block_numbers::give;
 
 // Starts a draft.
 #[no_mangle]

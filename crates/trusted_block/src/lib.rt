@@ -1,4 +1,4 @@
-// The calls for host programs in C. Names and order of parameters stand in include/trusted_block.h.
+// Public: the calls for host programs in C. Names and order of parameters stand in include/trusted_block.h.
 mod drafts; // drafts.rt: the start and the finish of a draft
 mod sections; // sections.rt: the additions of sections
 mod subsections; // subsections.rt: the additions of subsections
@@ -9,11 +9,11 @@ ghost use Rattle.format.specs.Reading.{answer};
 ghost use Rattle.format.specs.Table.{tableAnswer, tableAfter};
 ghost use Rattle.format.specs.Views.{fieldAt, viewAnswer};
 ghost use Rattle.format.specs.GivenNumbers.{numberOf, secondOf, offsetOf, lengthOf};
-use host_numbers::give;
-use host_numbers::give_where;
 use lookup::field_at;
 use reading::read;
 use reading::read_table;
+use trusted_block_numbers::give;
+use trusted_block_numbers::give_where;
 
 // The reading of a token.
 #[no_mangle]

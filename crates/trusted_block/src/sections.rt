@@ -6,7 +6,7 @@ ghost use mathlib.Core.List.{_∷_, []};
 ghost use Rattle.format.specs.Parts as Parts;
 ghost use Rattle.format.specs.Writer.{writeAnswer, draftAfter, addition, publicKeyFields, ruleFields, informationFields};
 ghost use Rattle.format.specs.GivenNumbers.{numberOf, secondOf};
-use host_numbers::give;
+use trusted_block_numbers::give;
 
 // Adds the public key, section 11.
 #[no_mangle]
@@ -23,7 +23,7 @@ pub extern "C" fn tb_add_public_key(
     ensures second { λ _. ⌜ now (second .exit) ≡ secondOf (writeAnswer (addition Parts.publicKey (publicKeyFields «modulus_bits» (now (exponent .entry)) (now (modulus .entry)) flags) (now (draft .entry)))) ⌝ }
 {
     give(
-        long_section_writer::public_key(draft, modulus_bits, exponent, modulus, flags),
+        add_key_and_data::public_key(draft, modulus_bits, exponent, modulus, flags),
         second,
     )
 }
@@ -45,7 +45,7 @@ pub extern "C" fn tb_add_rule(
     ensures second { λ _. ⌜ now (second .exit) ≡ secondOf (writeAnswer (addition Parts.rule (ruleFields (now («rule_id» .entry)) flags «generated_length» «key_check» «symmetric_format» «asymmetric_format») (now (draft .entry)))) ⌝ }
 {
     give(
-        section_writer::rule(
+        add_fixed_sections::rule(
             draft,
             rule_id,
             flags,
@@ -65,7 +65,7 @@ pub extern "C" fn tb_add_name(draft: &mut [u8], name: &[u8], second: &mut u32) -
     ensures draft { λ _. ⌜ now (draft .exit) ≡ draftAfter (addition Parts.name ((now (name .entry)) ∷ []) (now (draft .entry))) (now (draft .entry)) ⌝ }
     ensures second { λ _. ⌜ now (second .exit) ≡ secondOf (writeAnswer (addition Parts.name ((now (name .entry)) ∷ []) (now (draft .entry)))) ⌝ }
 {
-    give(section_writer::name(draft, name), second)
+    give(add_fixed_sections::name(draft, name), second)
 }
 
 // Adds the information on the block, section 14.
@@ -75,7 +75,7 @@ pub extern "C" fn tb_add_information(draft: &mut [u8], flags: u32, second: &mut 
     ensures draft { λ _. ⌜ now (draft .exit) ≡ draftAfter (addition Parts.information (informationFields flags) (now (draft .entry))) (now (draft .entry)) ⌝ }
     ensures second { λ _. ⌜ now (second .exit) ≡ secondOf (writeAnswer (addition Parts.information (informationFields flags) (now (draft .entry)))) ⌝ }
 {
-    give(section_writer::information(draft, flags), second)
+    give(add_fixed_sections::information(draft, flags), second)
 }
 
 // Adds application data, section 15.
@@ -85,5 +85,5 @@ pub extern "C" fn tb_add_application_data(draft: &mut [u8], data: &[u8], second:
     ensures draft { λ _. ⌜ now (draft .exit) ≡ draftAfter (addition Parts.applicationData ((now («data» .entry)) ∷ []) (now (draft .entry))) (now (draft .entry)) ⌝ }
     ensures second { λ _. ⌜ now (second .exit) ≡ secondOf (writeAnswer (addition Parts.applicationData ((now («data» .entry)) ∷ []) (now (draft .entry)))) ⌝ }
 {
-    give(long_section_writer::application_data(draft, data), second)
+    give(add_key_and_data::application_data(draft, data), second)
 }

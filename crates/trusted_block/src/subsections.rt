@@ -6,7 +6,7 @@ ghost use mathlib.Core.List.{_∷_, []};
 ghost use Rattle.format.specs.Parts as Parts;
 ghost use Rattle.format.specs.Writer.{writeAnswer, draftAfter, addition, exportFields, dateFields};
 ghost use Rattle.format.specs.GivenNumbers.{numberOf, secondOf};
-use host_numbers::give;
+use trusted_block_numbers::give;
 
 // Adds the variant of the transport key, 0001 of a rule.
 #[no_mangle]
@@ -19,7 +19,10 @@ pub extern "C" fn tb_add_transport_variant(
     ensures draft { λ _. ⌜ now (draft .exit) ≡ draftAfter (addition Parts.transportVariant ((now (variant .entry)) ∷ []) (now (draft .entry))) (now (draft .entry)) ⌝ }
     ensures second { λ _. ⌜ now (second .exit) ≡ secondOf (writeAnswer (addition Parts.transportVariant ((now (variant .entry)) ∷ []) (now (draft .entry)))) ⌝ }
 {
-    give(subsection_writer::transport_variant(draft, variant), second)
+    give(
+        add_variant_and_references::transport_variant(draft, variant),
+        second,
+    )
 }
 
 // Adds the rule of the transport key, 0002 of a rule.
@@ -29,7 +32,10 @@ pub extern "C" fn tb_add_transport_rule(draft: &mut [u8], rule_id: &[u8], second
     ensures draft { λ _. ⌜ now (draft .exit) ≡ draftAfter (addition Parts.transportRule ((now («rule_id» .entry)) ∷ []) (now (draft .entry))) (now (draft .entry)) ⌝ }
     ensures second { λ _. ⌜ now (second .exit) ≡ secondOf (writeAnswer (addition Parts.transportRule ((now («rule_id» .entry)) ∷ []) (now (draft .entry)))) ⌝ }
 {
-    give(subsection_writer::transport_rule(draft, rule_id), second)
+    give(
+        add_variant_and_references::transport_rule(draft, rule_id),
+        second,
+    )
 }
 
 // Adds the parameters of an export, 0003 of a rule.
@@ -47,7 +53,7 @@ pub extern "C" fn tb_add_export_parameters(
     ensures second { λ _. ⌜ now (second .exit) ≡ secondOf (writeAnswer (addition Parts.exportParameters (exportFields minimum maximum (now (variant .entry)) (now (vector .entry))) (now (draft .entry)))) ⌝ }
 {
     give(
-        export_writer::export_parameters(draft, minimum, maximum, variant, vector),
+        add_export_parameters::export_parameters(draft, minimum, maximum, variant, vector),
         second,
     )
 }
@@ -59,7 +65,10 @@ pub extern "C" fn tb_add_source_rule(draft: &mut [u8], rule_id: &[u8], second: &
     ensures draft { λ _. ⌜ now (draft .exit) ≡ draftAfter (addition Parts.sourceRule ((now («rule_id» .entry)) ∷ []) (now (draft .entry))) (now (draft .entry)) ⌝ }
     ensures second { λ _. ⌜ now (second .exit) ≡ secondOf (writeAnswer (addition Parts.sourceRule ((now («rule_id» .entry)) ∷ []) (now (draft .entry)))) ⌝ }
 {
-    give(subsection_writer::source_rule(draft, rule_id), second)
+    give(
+        add_variant_and_references::source_rule(draft, rule_id),
+        second,
+    )
 }
 
 // Adds the parameters of the source token, 0005 of a rule.
@@ -76,7 +85,7 @@ pub extern "C" fn tb_add_token_parameters(
     ensures second { λ _. ⌜ now (second .exit) ≡ secondOf (writeAnswer (addition Parts.tokenParameters ((now (mask .entry)) ∷ (now (template .entry)) ∷ (now («label_template» .entry)) ∷ []) (now (draft .entry)))) ⌝ }
 {
     give(
-        template_writer::token_parameters(draft, mask, template, label_template),
+        add_token_parameters::token_parameters(draft, mask, template, label_template),
         second,
     )
 }
@@ -95,7 +104,7 @@ pub extern "C" fn tb_add_protection(
     ensures second { λ _. ⌜ now (second .exit) ≡ secondOf (writeAnswer (addition Parts.protection ((now («mac_key» .entry)) ∷ (now (mac .entry)) ∷ (now (mkvp .entry)) ∷ []) (now (draft .entry)))) ⌝ }
 {
     give(
-        information_writer::protection(draft, mac_key, mac, mkvp),
+        add_protection_and_dates::protection(draft, mac_key, mac, mkvp),
         second,
     )
 }
@@ -114,7 +123,7 @@ pub extern "C" fn tb_add_dates(
     ensures second { λ _. ⌜ now (second .exit) ≡ secondOf (writeAnswer (addition Parts.dates (dateFields flags (now (activation .entry)) (now (expiration .entry))) (now (draft .entry)))) ⌝ }
 {
     give(
-        information_writer::dates(draft, flags, activation, expiration),
+        add_protection_and_dates::dates(draft, flags, activation, expiration),
         second,
     )
 }

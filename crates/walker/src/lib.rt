@@ -1,4 +1,4 @@
-// The reader that keeps hold of a token's bytes and its place in them. Any bytes may be walked.
+// Public: the reader that keeps hold of a token's bytes and its place in them. Any bytes may be walked.
 ghost use mathlib.Core.Path.{_≡_};
 ghost use Rattle.format.specs.Views.{stepAt, placeAfter};
 ghost use Rattle.walker.specs.Walking.{stepAfter};

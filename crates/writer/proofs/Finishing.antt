@@ -10,7 +10,7 @@ use Rattle.format.specs.Reading.{Outcome, refused, found, andThen, asAnswer, st
 use Rattle.format.specs.Writer.{finish}
 use Rattle.format.specs.declared.Answer.{Answer}
 use Rattle.format.specs.declared.Answer.the-variants.{Accepted, Refused}
-use Rattle.draft_parts.specs.Tiling.{Reads}
+use Rattle.write_last_part.specs.Tiling.{Reads}
 
 -- A refusal is told as such, whatever would be counted.
 told-refused : {A : Type 0} {m p : ℕ} (f g : A → ℕ) (o : Outcome A) → Refused m p ≡ asAnswer f o → Refused m p ≡ asAnswer g o

@@ -16,7 +16,7 @@ use Rattle.format.proofs.Grouping.{stateable}
 use Rattle.format.proofs.Unique as Unique
 use Rattle.format.proofs.Writing as Writing
 use Rattle.format.proofs.Writing.{told-accepted}
-use Rattle.longer_drafts.proofs.Outcomes.{told-refused}
+use Rattle.write_appended_part.proofs.Outcomes.{told-refused}
 use Rattle.writer.specs.Runs.{Call, Run, done, added}
 use Rattle.writer.specs.Runs as Runs
 

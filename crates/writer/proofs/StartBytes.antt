@@ -10,9 +10,9 @@ use Rattle.format.specs.Parts.{written, knownId}
 use Rattle.format.specs.Reading.{refused, found, fault, need, asAnswer}
 use Rattle.format.specs.Writer.{writeAnswer, draftAfter, start}
 use Rattle.format.specs.declared.Answer.the-variants.{Accepted, Refused}
-use Rattle.storing.specs.Storing.{Stored}
-use Rattle.storing.proofs.Stores.{sets-front}
-use Rattle.longer_drafts.proofs.Outcomes.{same-written}
+use Rattle.write_bytes.specs.Storing.{Stored}
+use Rattle.write_bytes.proofs.Stores.{sets-front}
+use Rattle.write_appended_part.proofs.Outcomes.{same-written}
 
 -- a draft of less than 8 bytes
 pub too-short : (i : ℕ) (d : List ℕ) → length d < 8

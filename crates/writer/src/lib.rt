@@ -1,13 +1,12 @@
-// Public: the start and the finish of a lent draft; section_writer, long_section_writer, subsection_writer, export_writer,
-// template_writer and information_writer have the additions. The calls ask nothing.
+// Public: the start and the finish of a lent draft. The additions stand in the crates add_.. The calls ask nothing.
 ghost use mathlib.Core.Path.{_≡_};
 ghost use Rattle.format.specs.Writer.{writeAnswer, draftAfter, start as started};
-use drafts::heads::section_head;
-use fields::two;
 use format::Answer;
+use read_fields::two;
 use reading::draft::read_draft;
 use reading::read;
-use storing::put_four;
+use write_bytes::put_four;
+use write_section::heads::section_head;
 
 // A draft with its header and no sections: the id, 0, the length 8, and four bytes 0. A header begins as a section does.
 pub fn start(draft: &mut [u8], id: u8) -> Answer

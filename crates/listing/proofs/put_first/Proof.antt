@@ -2,7 +2,7 @@
 use mathlib.Core.Path.{sym, ap, _∙_}
 use borrow.Author.Needs.{needs}
 use Rattle.format.specs.Lines.{text, firstLine}
-use Rattle.storing.proofs.Stores.{stored-as}
+use Rattle.write_bytes.proofs.Stores.{stored-as}
 use Rattle.listing.proofs.Lines.{accepted-is, refused-is, column-stored, last-stored}
 use Rattle.listing.proofs.put_first.Statement.{statement}
 use Rattle.listing.proofs.put_first.Tie as tie

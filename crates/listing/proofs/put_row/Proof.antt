@@ -2,7 +2,7 @@
 use mathlib.Core.Path.{sym}
 use native.Mathlib.Omega.{arith}
 use borrow.Author.Needs.{needs}
-use Rattle.storing.proofs.Stores.{stored-as}
+use Rattle.write_bytes.proofs.Stores.{stored-as}
 use Rattle.listing.proofs.Lines.{row-is, column-stored, kind-stored, last-stored}
 use Rattle.listing.proofs.put_row.Statement.{statement}
 use Rattle.listing.proofs.put_row.Tie as tie

@@ -6,7 +6,7 @@ use native.Mathlib.Omega.{arith}
 use lib.Seq.{length-take-le}
 use borrow.Author.Needs.{needs}
 use Rattle.listing.specs.Buffers.{lineAnswer, lineIn}
-use Rattle.storing.proofs.Stores.{stored-cut}
+use Rattle.write_bytes.proofs.Stores.{stored-cut}
 use Rattle.listing.proofs.row_line.Statement.{statement}
 use Rattle.listing.proofs.row_line.Tie as tie
 

@@ -4,8 +4,8 @@ use mathlib.Core.Bool.{true}
 use native.Mathlib.Omega.{arith}
 use Rattle.format.specs.Parts.{external}
 use Rattle.format.specs.Reading.{answer}
-use Rattle.contents.specs.Progress.{sectionsAnswer}
-use Rattle.contents.proofs.Headers.{id-first, header-stops, header-lengths, whole-length, whole-goes}
+use Rattle.read_token.specs.Progress.{sectionsAnswer}
+use Rattle.read_token.proofs.Headers.{id-first, header-stops, header-lengths, whole-length, whole-goes}
 use borrow.Author.Needs.{needs}
 use Rattle.reading.proofs.read.Statement.{statement}
 use Rattle.reading.proofs.read.Tie as tie

@@ -1,7 +1,7 @@
 -- The token's own refusal, 23, or its very bytes. Assumes nothing.
 use mathlib.Core.Path.{sym, _∙_}
 use native.Mathlib.Omega.{arith}
-use Rattle.fields.proofs.Sizes.{bytes-of}
+use Rattle.read_fields.proofs.Sizes.{bytes-of}
 use Rattle.rebuild.proofs.Laws.{own-refusal, no-room, whole, has-rows}
 use borrow.Author.Needs.{needs}
 use Rattle.rebuild.proofs.rebuild.Statement.{statement}

@@ -2,7 +2,7 @@
 use mathlib.Core.Path.{sym, _∙_}
 use native.Mathlib.Omega.{arith}
 use lib.Seq.{length-take-le}
-use Rattle.drafts.proofs.Calls.{reads, header-stands}
+use Rattle.write_section.proofs.Calls.{reads, header-stands}
 use Rattle.writer.proofs.Finishing.{finish-own, finish-refused, finish-done}
 use borrow.Author.Needs.{needs}
 use Rattle.writer.proofs.finish.Statement.{statement}

@@ -1,8 +1,8 @@
 -- `start`: a draft too short, an unknown id, or the header at the draft's start. Assumes nothing.
 use native.Mathlib.Omega.{arith}
 use borrow.Author.Needs.{needs}
-use Rattle.storing.proofs.Stores.{stored-then}
-use Rattle.contents.proofs.Headers.{id-known, id-below, id-above}
+use Rattle.write_bytes.proofs.Stores.{stored-then}
+use Rattle.read_token.proofs.Headers.{id-known, id-below, id-above}
 use Rattle.writer.proofs.StartBytes.{too-short, id-unknown, header-stored}
 use Rattle.writer.proofs.start.Statement.{statement}
 use Rattle.writer.proofs.start.Tie as tie

@@ -6,8 +6,8 @@ use native.Mathlib.Omega.{arith}
 use lib.ListN.{take}
 use lib.Seq.{length-take-le}
 use Rattle.format.specs.Parts.{external}
-use Rattle.contents.specs.Progress.{sectionsAnswer}
-use Rattle.contents.proofs.Headers.{id-first, header-stops, header-lengths, header-goes}
+use Rattle.read_token.specs.Progress.{sectionsAnswer}
+use Rattle.read_token.proofs.Headers.{id-first, header-stops, header-lengths, header-goes}
 use borrow.Author.Needs.{needs}
 use Rattle.reading.proofs.draft.read_draft.Statement.{statement}
 use Rattle.reading.proofs.draft.read_draft.Tie as tie

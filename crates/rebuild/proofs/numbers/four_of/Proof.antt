@@ -3,7 +3,7 @@ use mathlib.Core.Path.{ap}
 use native.Mathlib.Omega.{arith}
 use lib.ListN.{length}
 use Rattle.rebuild.proofs.Laws.{as-number}
-use Rattle.fields.proofs.Sizes.{bytes-of}
+use Rattle.read_fields.proofs.Sizes.{bytes-of}
 use borrow.Author.Needs.{needs}
 use Rattle.rebuild.proofs.numbers.four_of.Statement.{statement}
 use Rattle.rebuild.proofs.numbers.four_of.Tie as tie

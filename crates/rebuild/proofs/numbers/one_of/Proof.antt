@@ -4,7 +4,7 @@ use native.Mathlib.Omega.{arith}
 use lib.ListN.{length}
 use Rattle.format.proofs.Numbers.{number-one}
 use Rattle.rebuild.proofs.Laws.{as-number}
-use Rattle.fields.proofs.Sizes.{bytes-of}
+use Rattle.read_fields.proofs.Sizes.{bytes-of}
 use borrow.Author.Needs.{needs}
 use Rattle.rebuild.proofs.numbers.one_of.Statement.{statement}
 use Rattle.rebuild.proofs.numbers.one_of.Tie as tie

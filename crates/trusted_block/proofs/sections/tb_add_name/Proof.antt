@@ -1,6 +1,6 @@
 -- The answer as two numbers, and what the draft then holds.
 use borrow.Author.Needs.{needs}
-use Rattle.host_numbers.proofs.Given.{given}
+use Rattle.trusted_block_numbers.proofs.Given.{given}
 use Rattle.trusted_block.proofs.sections.tb_add_name.Statement.{statement}
 use Rattle.trusted_block.proofs.sections.tb_add_name.Tie as tie
 
