@@ -3,9 +3,9 @@ ghost use mathlib.Core.Path.{_≡_};
 ghost use lib.ListN.{length};
 ghost use Rattle.format.specs.Bytes.{bigEndian};
 ghost use Rattle.format.specs.Views as Views;
-use lookup::view;
 use read_fields::four;
 use read_fields::two;
+use views::view;
 
 // A field of one byte.
 pub(crate) fn one_of(token: &[u8], row: u32, field: u32) -> u8

@@ -6,7 +6,7 @@ use crate::numbers::four_of;
 use crate::numbers::one_of;
 use crate::numbers::two_of;
 use format::Answer;
-use lookup::view;
+use views::view;
 
 // Section 11.
 pub(crate) fn public_key(token: &[u8], row: u32, draft: &mut [u8]) -> Answer

@@ -5,7 +5,7 @@ ghost use Rattle.rebuild.specs.Rows.{RowOfKind, AddsViews};
 use crate::numbers::one_of;
 use crate::numbers::two_of;
 use format::Answer;
-use lookup::view;
+use views::view;
 
 // 12/0001.
 pub(crate) fn transport_variant(token: &[u8], row: u32, draft: &mut [u8]) -> Answer

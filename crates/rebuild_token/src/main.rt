@@ -7,10 +7,10 @@ use format::Answer;
 use libc::STDIN_FILENO;
 use libc::STDOUT_FILENO;
 use list_output::write_first;
-use lookup::view;
-use lookup::view_answer;
 use reading::read;
 use rebuild::rebuild;
+use views::view;
+use views::view_answer;
 
 // What the bytes of a draft hold before.
 const UNUSED: u8 = 0xAA;

@@ -9,11 +9,11 @@ ghost use Rattle.format.specs.Reading.{answer};
 ghost use Rattle.format.specs.Table.{tableAnswer, tableAfter};
 ghost use Rattle.format.specs.Views.{fieldAt, viewAnswer};
 ghost use Rattle.format.specs.GivenNumbers.{numberOf, secondOf, offsetOf, lengthOf};
-use lookup::field_at;
 use reading::read;
 use reading::read_table;
 use trusted_block_numbers::give;
 use trusted_block_numbers::give_where;
+use views::field_at;
 
 // The reading of a token.
 #[no_mangle]

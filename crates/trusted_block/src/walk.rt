@@ -3,9 +3,9 @@ ghost use mathlib.Core.Path.{_≡_};
 ghost use Rattle.format.specs.Views.{stepAt};
 ghost use Rattle.format.specs.GivenNumbers.{stepNumber, rowAnswer, stepSecond, rowKind, rowOffset, rowLength, rowOwner, rowRule, nextOf};
 ghost use Rattle.walker.specs.Walking.{stepAfter};
-use lookup::step;
 use trusted_block_numbers::steps::give_row;
 use trusted_block_numbers::steps::give_step;
+use views::step;
 use walker::nth_step;
 
 // The step of the walk at a place.

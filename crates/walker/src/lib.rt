@@ -33,7 +33,7 @@ pub fn next<'s, 'a>(w: &'s mut Walker<'a>) -> Step
 {
     let token = w.token;
     let place = w.place;
-    let s = lookup::step(token, place);
+    let s = views::step(token, place);
     w.place = place_after(s, place);
     s
 }

@@ -46,10 +46,10 @@ use Rattle.format.specs.Views.{stepAt, placeAfter}
 use Rattle.format.specs.declared.Step.{Step}
 use Rattle.format.proofs.Step as S
 use Rattle.format.proofs.Step.Laws as S′
-use Rattle.lookup.proofs.step as step-at
-use Rattle.lookup.proofs.step.Symbol as step-at-def
-use Rattle.lookup.proofs.step.Symbol.{name as #lookup·step}
-use Rattle.lookup.proofs.step.Met as step-at-thm
+use Rattle.views.proofs.step as step-at
+use Rattle.views.proofs.step.Symbol as step-at-def
+use Rattle.views.proofs.step.Symbol.{name as #views·step}
+use Rattle.views.proofs.step.Met as step-at-thm
 use Rattle.walker.proofs.place_after as place-after
 use Rattle.walker.proofs.place_after.Symbol as place-after-def
 use Rattle.walker.proofs.place_after.Symbol.{name as #walker·place-after}
@@ -155,7 +155,7 @@ module _ {M : Type 1} (𝓤 : URA M) (H : Heap 𝓤) (A : Atoms 𝓤) (W : Given
       suffices ! _ (ends-at 𝓤 H A nexts.ended stayed (nexts.clauses 𝓤 H A at-mem run) W (((κ, (κ′, tt)), (q, (q′, tt)), bounds, x, at), tt) u t (h′ r, tt) (tt, tt)) $ says ! (e, (refl, e′)) $
       move ! (2 ∷ 3 ∷ []) $ join ! $ frame ! $ feqI ! (List Val) (vptr b o ∷ []) (vptr b o ∷ []) refl $ fjoin3 ! $ nothing ! $ move ! (1 ∷ 0 ∷ []) $ fjoin ! $ frame ! $ done !
 
-  module _ (C : Calls 𝓤 H) (Λ : Loops 𝓤 H) (fm : FmC 𝓤 H (W .laws) C) (known : Triple 𝓤 (C #lookup·step) (StepAt 𝓤 H A at-mem run)) (known′ : Triple 𝓤 (C #walker·place-after) (PlaceBehind 𝓤 H A at-mem run)) where
+  module _ (C : Calls 𝓤 H) (Λ : Loops 𝓤 H) (fm : FmC 𝓤 H (W .laws) C) (known : Triple 𝓤 (C #views·step) (StepAt 𝓤 H A at-mem run)) (known′ : Triple 𝓤 (C #walker·place-after) (PlaceBehind 𝓤 H A at-mem run)) where
     walk : ent 𝓤 (onEntry 𝓤 H A nexts.signature (κ, (κ′, tt)) (q, (q′, tt)) x at) (WpFn 𝓤 H C Λ code.function (vptr b o ∷ []) Post)
     walk =
         qed W ((‵ (flft κ q) ⊛ ‵ (flft κ′ q′) ⊛ ‵ ftrue) ∷ ‵ (owns (MutRef (named 0) κ (B κ′) ∷ []) x at) ∷ []) ∵ enter ! C Λ code.function (vptr b o ∷ []) _ $
@@ -197,11 +197,11 @@ module _ {M : Type 1} (𝓤 : URA M) (H : Heap 𝓤) (A : Atoms 𝓤) (W : Given
         fits g = LL.owed (T.the-type (α κ′)) (T′.the-laws (α κ′)) h _ g .1 .0 .1
 
 module _ {M : Type 1} (𝓤 : URA M) (H : Heap 𝓤) (A : Atoms 𝓤) (W : Given 𝓤 H A) (mem : Memory → SProp 𝓤) (run : Routine → Fun 𝓤) where
-  next-walks : (C : Calls 𝓤 H) (Λ : Loops 𝓤 H) → FmC 𝓤 H (W .laws) C → Triple 𝓤 (C #lookup·step) (StepAt 𝓤 H A mem run) → Triple 𝓤 (C #walker·place-after) (PlaceBehind 𝓤 H A mem run) → Walks 𝓤 H A nexts.ended stayed (WpFn 𝓤 H C Λ code.function) (nexts.clauses 𝓤 H A mem run)
+  next-walks : (C : Calls 𝓤 H) (Λ : Loops 𝓤 H) → FmC 𝓤 H (W .laws) C → Triple 𝓤 (C #views·step) (StepAt 𝓤 H A mem run) → Triple 𝓤 (C #walker·place-after) (PlaceBehind 𝓤 H A mem run) → Walks 𝓤 H A nexts.ended stayed (WpFn 𝓤 H C Λ code.function) (nexts.clauses 𝓤 H A mem run)
   next-walks C Λ fm known known′ = walked 𝓤 H A nexts.ended stayed (nexts.clauses 𝓤 H A mem run) (WpFn 𝓤 H C Λ code.function) (λ κs. (ptr-vals, tt)) (λ κs. (mut-tells (named 0) (κs .0) (B (κs .1 .0)), tt))
       (λ κs qs bounds a _ are. via 𝓤 _ (fst∗ 𝓤 _ (emp 𝓤)) (walk 𝓤 H A W mem run (κs .0) (κs .1 .0) (qs .0) (qs .1 .0) bounds (a .0 .ptr .0) (a .0 .ptr .1) (a .0 .name) (a .0 .now) C Λ fm known known′))
 
-next-meets : {M : Type 1} (𝓤 : URA M) (H : Heap 𝓤) (A : Atoms 𝓤) → Given 𝓤 H A → (mem : Memory → SProp 𝓤) (run : Routine → Fun 𝓤) (𝓣 : Tables 𝓤 H) → Triple 𝓤 (𝓣 .C #lookup·step) (StepAt 𝓤 H A mem run) → Triple 𝓤 (𝓣 .C #walker·place-after) (PlaceBehind 𝓤 H A mem run)
+next-meets : {M : Type 1} (𝓤 : URA M) (H : Heap 𝓤) (A : Atoms 𝓤) → Given 𝓤 H A → (mem : Memory → SProp 𝓤) (run : Routine → Fun 𝓤) (𝓣 : Tables 𝓤 H) → Triple 𝓤 (𝓣 .C #views·step) (StepAt 𝓤 H A mem run) → Triple 𝓤 (𝓣 .C #walker·place-after) (PlaceBehind 𝓤 H A mem run)
     → Meets 𝓤 H A nexts.signature (WpFn 𝓤 H (𝓣 .C) (𝓣 .Λ) code.function) (nexts.spec 𝓤 H A mem run)
 next-meets 𝓤 H A W mem run 𝓣 known known′ = walk-meets 𝓤 H A nexts.ended stayed W (goes-ref 𝓤 H A W 2 0 tt behind, tt) (nexts.clauses 𝓤 H A mem run) (WpFn 𝓤 H (𝓣 .C) (𝓣 .Λ) code.function) (WpFn-mono 𝓤 H (W .laws) 𝓣 code.function)
     (next-walks 𝓤 H A W mem run (𝓣 .C) (𝓣 .Λ) (fmOf 𝓤 H (W .laws) 𝓣) known known′)
@@ -212,5 +212,5 @@ next-spec 𝓤 H 𝓜 𝓖 𝓡 =
     entered 𝓤 H (tripleOf 𝓤 H (𝓖 .A) nexts.signature (nexts.spec 𝓤 H (𝓖 .A) (𝓜 .mem) (𝓡 .run)))
     (tables 𝓤 H 𝓜 𝓡 code.env .C) (tables 𝓤 H 𝓜 𝓡 code.env .Λ) #walker·next code.function (code.unfolded 𝓤 H 𝓜 𝓡)
     (next-meets 𝓤 H (𝓖 .A) (givenOf 𝓤 H 𝓜 𝓖) (𝓜 .mem) (𝓡 .run) (tablesOf 𝓤 H 𝓜 (tables 𝓤 H 𝓜 𝓡 code.env))
-    (cited 𝓤 H (StepAt 𝓤 H (𝓖 .A) (𝓜 .mem) (𝓡 .run)) 𝓜 𝓡 code.env #lookup·step step-at-def.routine code.calls-lookup·step (step-at-thm.met 𝓤 H 𝓜 𝓖 𝓡))
+    (cited 𝓤 H (StepAt 𝓤 H (𝓖 .A) (𝓜 .mem) (𝓡 .run)) 𝓜 𝓡 code.env #views·step step-at-def.routine code.calls-views·step (step-at-thm.met 𝓤 H 𝓜 𝓖 𝓡))
     (cited 𝓤 H (PlaceBehind 𝓤 H (𝓖 .A) (𝓜 .mem) (𝓡 .run)) 𝓜 𝓡 code.env #walker·place-after place-after-def.routine code.calls-walker·place-after (place-after-thm.met 𝓤 H 𝓜 𝓖 𝓡)))

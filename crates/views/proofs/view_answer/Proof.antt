@@ -2,8 +2,8 @@
 use mathlib.Core.Path.{sym, ap, _∙_}
 use Rattle.format.specs.Views.{whetherThere, viewAnswer}
 use borrow.Author.Needs.{needs}
-use Rattle.lookup.proofs.view_answer.Statement.{statement}
-use Rattle.lookup.proofs.view_answer.Tie as tie
+use Rattle.views.proofs.view_answer.Statement.{statement}
+use Rattle.views.proofs.view_answer.Tie as tie
 
 -- src/lib.rt:39:9
 field-at-requires : tie.Need-field-at-requires

@@ -1,9 +1,9 @@
 -- The reading first, then the step.
 use mathlib.Core.Path.{sym, _∙_}
-use Rattle.lookup.proofs.Laws.{whole, walk-refused}
+use Rattle.views.proofs.Laws.{whole, walk-refused}
 use borrow.Author.Needs.{needs}
-use Rattle.lookup.proofs.step.Statement.{statement}
-use Rattle.lookup.proofs.step.Tie as tie
+use Rattle.views.proofs.step.Statement.{statement}
+use Rattle.views.proofs.step.Tie as tie
 
 -- src/lib.rt:50:9
 read-requires : tie.Need-read-requires

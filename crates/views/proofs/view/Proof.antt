@@ -2,10 +2,10 @@
 use mathlib.Core.Path.{sym, ap, _∙_}
 use native.Mathlib.Omega.{arith}
 use Rattle.format.specs.Views.{bytesThere, view}
-use Rattle.lookup.proofs.Laws.{field-within, nothing-there, part-there}
+use Rattle.views.proofs.Laws.{field-within, nothing-there, part-there}
 use borrow.Author.Needs.{needs}
-use Rattle.lookup.proofs.view.Statement.{statement}
-use Rattle.lookup.proofs.view.Tie as tie
+use Rattle.views.proofs.view.Statement.{statement}
+use Rattle.views.proofs.view.Tie as tie
 
 -- src/lib.rt:26:9
 field-at-requires : tie.Need-field-at-requires

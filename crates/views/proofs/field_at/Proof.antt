@@ -1,9 +1,9 @@
 -- The reading first, then the field.
 use mathlib.Core.Path.{sym, _∙_}
-use Rattle.lookup.proofs.Laws.{whole, field-refused}
+use Rattle.views.proofs.Laws.{whole, field-refused}
 use borrow.Author.Needs.{needs}
-use Rattle.lookup.proofs.field_at.Statement.{statement}
-use Rattle.lookup.proofs.field_at.Tie as tie
+use Rattle.views.proofs.field_at.Statement.{statement}
+use Rattle.views.proofs.field_at.Tie as tie
 
 -- src/lib.rt:15:9
 read-requires : tie.Need-read-requires
