@@ -92,7 +92,7 @@ fn labelled_rules() -> Vec<Vec<u8>> {
     let mut random = Random::new(0x6C61_6265);
     let labelled = |number| {
         let label = values::label_template(&mut random);
-        let parameters = subsection(5, &[&[0, 0, 0, 0, 64], &label]);
+        let parameters = subsection(0x0005, &[&[0, 0, 0, 0, 64], &label]);
         let id = format!("LABEL{number}  ").into_bytes();
         rule(&id.try_into().expect("eight characters"), &[parameters])
     };

@@ -11,8 +11,8 @@
 #define UNTOUCHED 0xDEADBEEFu
 
 /* The smallest token, its last 56 bytes 0. */
-static const uint8_t smallest[80] = {0x1E, 0, 0, 0x50, 0, 0, 0, 0,  0x14, 0, 0, 0x48,
-                                     0,    0, 0, 0,    0, 0, 0, 0x01, 0,  0x3E};
+static const uint8_t smallest[TB_SHORTEST] = {0x1E, 0, 0, 0x50, 0, 0, 0, 0,    0x14, 0, 0, 0x48,
+                                              0,    0, 0, 0,    0, 0, 0, 0x01, 0,    0x3E};
 
 static uint32_t read_only(const uint8_t *token, size_t length, uint32_t *second)
 {
@@ -38,7 +38,7 @@ static void nothing_at_a_null_pointer(void)
     CHECK(tb_read_table(NULL, 0, table, TB_COLUMNS, &second) == TB_NO_HEADER && second == 0);
     CHECK(memcmp(table, before, sizeof table) == 0);
     second = UNTOUCHED;
-    CHECK(tb_read_table(smallest, 80, NULL, 0, &second) == TB_NO_ROOM && second == 2);
+    CHECK(tb_read_table(smallest, TB_SHORTEST, NULL, 0, &second) == TB_NO_ROOM && second == 2);
     CHECK(tb_view(NULL, 0, 0, 0, &second, &offset, &length) == TB_NO_HEADER);
     CHECK(second == 0 && offset == 0 && length == 0);
 }
@@ -56,7 +56,7 @@ static void smallest_into_table(size_t numbers)
         before[i] = UNTOUCHED;
     }
     lent = lend(before, numbers * sizeof *before, PAGE_BEHIND);
-    number = tb_read_table(smallest, 80, (uint32_t *)(void *)lent.bytes, numbers, &second);
+    number = tb_read_table(smallest, TB_SHORTEST, (uint32_t *)(void *)lent.bytes, numbers, &second);
     CHECK(second == 2 && number == (numbers < 2 * TB_COLUMNS ? TB_NO_ROOM : TB_ACCEPTED));
     if (number == TB_ACCEPTED) {
         memcpy(before, rows, sizeof rows);
@@ -83,7 +83,7 @@ static void fields_of_a_row(uint32_t row, uint32_t fields, uint32_t from, uint32
     size_t i;
 
     for (field = 0; field < fields; field++) {
-        CHECK(tb_view(smallest, 80, row, field, &second, &offset, &length) == TB_ACCEPTED);
+        CHECK(tb_view(smallest, TB_SHORTEST, row, field, &second, &offset, &length) == TB_ACCEPTED);
         CHECK(second == 0 && offset == from);
         from = offset + length;
     }
@@ -91,7 +91,7 @@ static void fields_of_a_row(uint32_t row, uint32_t fields, uint32_t from, uint32
     for (i = 0; i < sizeof none / sizeof *none; i++) {
         field = none[i] <= UINT32_MAX - fields ? none[i] + fields : none[i];
         second = offset = length = UNTOUCHED;
-        CHECK(tb_view(smallest, 80, row, field, &second, &offset, &length) == TB_NO_SUCH);
+        CHECK(tb_view(smallest, TB_SHORTEST, row, field, &second, &offset, &length) == TB_NO_SUCH);
         CHECK(second == 0 && offset == 0 && length == 0);
     }
 }
@@ -99,7 +99,7 @@ static void fields_of_a_row(uint32_t row, uint32_t fields, uint32_t from, uint32
 static void fields_of_the_smallest(void)
 {
     fields_of_a_row(0, 5, 8, 18);
-    fields_of_a_row(1, 7, 18, 80);
+    fields_of_a_row(1, 7, 18, TB_SHORTEST);
     fields_of_a_row(2, 0, 0, 0);
     fields_of_a_row(UINT32_MAX, 0, 0, 0);
 }
@@ -125,20 +125,22 @@ static void step_is(step_call *call, size_t size, uint32_t asked, uint32_t numbe
 static void walk_over_the_smallest(void)
 {
     static const uint32_t first[GIVEN] = {0, TB_KIND_INFORMATION, 8, 72, 0, 0, 18};
-    static const uint32_t last[GIVEN] = {0, TB_KIND_PROTECTION, 18, 62, 0, 0, 80};
+    static const uint32_t last[GIVEN] = {0, TB_KIND_PROTECTION, 18, 62, 0, 0, TB_SHORTEST};
     static const uint32_t none[GIVEN] = {0, 0, 0, 0, 0, 0, 0};
     static const uint32_t cut[GIVEN] = {2, 0, 0, 0, 0, 0, 0};
     uint32_t place;
 
     for (place = 0; place < 90; place++) {
-        step_is(tb_step, 80, place, place == 8 || place == 18 || place == 80 ? TB_ACCEPTED : TB_NO_SUCH,
+        step_is(tb_step, TB_SHORTEST, place,
+                place == 8 || place == 18 || place == TB_SHORTEST ? TB_ACCEPTED : TB_NO_SUCH,
                 place == 8 ? first : place == 18 ? last : none);
-        step_is(tb_step, 79, place, TB_TOKEN_LENGTH, cut);
-        step_is(tb_row, 80, place, place < 2 ? TB_ACCEPTED : TB_NO_SUCH, place == 0 ? first : place == 1 ? last : none);
-        step_is(tb_row, 79, place, TB_TOKEN_LENGTH, cut);
+        step_is(tb_step, TB_SHORTEST - 1, place, TB_TOKEN_LENGTH, cut);
+        step_is(tb_row, TB_SHORTEST, place, place < 2 ? TB_ACCEPTED : TB_NO_SUCH,
+                place == 0 ? first : place == 1 ? last : none);
+        step_is(tb_row, TB_SHORTEST - 1, place, TB_TOKEN_LENGTH, cut);
     }
-    step_is(tb_step, 80, UINT32_MAX, TB_NO_SUCH, none);
-    step_is(tb_row, 80, UINT32_MAX, TB_NO_SUCH, none);
+    step_is(tb_step, TB_SHORTEST, UINT32_MAX, TB_NO_SUCH, none);
+    step_is(tb_row, TB_SHORTEST, UINT32_MAX, TB_NO_SUCH, none);
     step_is(tb_step, 0, 8, TB_NO_HEADER, none);
     step_is(tb_row, 0, 0, TB_NO_HEADER, none);
 }
@@ -217,20 +219,20 @@ static void places_in_the_smallest(void)
         {11, 13, TB_SUBSECTION_LENGTH, 18},
         {13, 1, TB_RESERVED, 12},
         {17, 2, TB_VALUE, 14},
-        {19, 3, TB_TAG, 18},
+        {19, 0x03, TB_TAG, 18},
         {21, 0x3D, TB_SUBSECTION_LENGTH, 20},
         {22, 1, TB_VERSION, 22},
         {23, 1, TB_RESERVED, 23},
         {79, 1, TB_MKVP, 64},
     };
-    uint8_t changed[80];
+    uint8_t changed[TB_SHORTEST];
     uint32_t second;
     size_t i;
 
     for (i = 0; i < sizeof faults / sizeof *faults; i++) {
-        memcpy(changed, smallest, 80);
+        memcpy(changed, smallest, TB_SHORTEST);
         changed[faults[i].at] = faults[i].value;
-        CHECK(read_only(changed, 80, &second) == faults[i].number);
+        CHECK(read_only(changed, TB_SHORTEST, &second) == faults[i].number);
         CHECK(second == faults[i].place);
     }
 }
@@ -238,17 +240,17 @@ static void places_in_the_smallest(void)
 /* Every byte in turn is made 0, 1, FF and one more: lengths that say too much must not lead outside. */
 static void every_byte_changed(void)
 {
-    uint8_t changed[80];
+    uint8_t changed[TB_SHORTEST];
     size_t place, turn;
 
-    for (place = 0; place < 80; place++) {
+    for (place = 0; place < TB_SHORTEST; place++) {
         for (turn = 0; turn < 4; turn++) {
             const uint8_t values[4] = {0, 1, 0xFF, (uint8_t)(smallest[place] + 1)};
 
-            memcpy(changed, smallest, 80);
+            memcpy(changed, smallest, TB_SHORTEST);
             changed[place] = values[turn];
-            read_at_a_page(changed, 80, PAGE_BEFORE);
-            read_at_a_page(changed, 80, PAGE_BEHIND);
+            read_at_a_page(changed, TB_SHORTEST, PAGE_BEFORE);
+            read_at_a_page(changed, TB_SHORTEST, PAGE_BEHIND);
         }
     }
 }
@@ -275,13 +277,13 @@ int main(int argc, char **argv)
     uint32_t second;
     int i;
 
-    CHECK(read_only(smallest, 80, &second) == TB_ACCEPTED && second == 2);
-    CHECK(read_only(smallest, 79, &second) == TB_TOKEN_LENGTH && second == 2);
+    CHECK(read_only(smallest, TB_SHORTEST, &second) == TB_ACCEPTED && second == 2);
+    CHECK(read_only(smallest, TB_SHORTEST - 1, &second) == TB_TOKEN_LENGTH && second == 2);
     nothing_at_a_null_pointer();
     tables_of_every_size();
     fields_of_the_smallest();
     walk_over_the_smallest();
-    every_beginning(smallest, 80);
+    every_beginning(smallest, TB_SHORTEST);
     places_in_the_smallest();
     every_byte_changed();
     for (i = 1; i < argc; i++) {

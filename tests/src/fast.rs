@@ -9,7 +9,7 @@ mod signs;
 /// An optimised writer with the same answers as [`crate::writer`].
 pub mod writer;
 
-use crate::reader::{Answer, COLUMNS};
+use crate::reader::Answer;
 use filling::fill;
 use rules::{rule, RuleIds};
 use sections::{information, public_key};
@@ -17,6 +17,10 @@ use sections::{information, public_key};
 /// The number of a fault and its place.
 type Judged<T> = Result<T, Answer>;
 
+/// Most bytes of a token.
+const LONGEST: usize = 3500;
+/// Numbers to a row of the table.
+const COLUMNS: usize = 5;
 /// Where `length` stands in a section and in a subsection.
 const LENGTH: usize = 2;
 
@@ -94,7 +98,7 @@ impl Progress {
         if !ALL {
             return Ok(self.last);
         }
-        if self.met & (1 << 3) == 0 {
+        if self.met & (1 << (0x14 - 0x11)) == 0 {
             return refuse(20, length);
         }
         Ok(self.rows)
@@ -114,8 +118,8 @@ fn judge<const ALL: bool>(bytes: &[u8]) -> Judged<u32> {
     }
     let length = usize::from(high) << 8 | usize::from(low);
     let right = match ALL {
-        true => bytes.len() <= 3500 && length == bytes.len(),
-        false => (8..=3500).contains(&length) && length <= bytes.len(),
+        true => bytes.len() <= LONGEST && length == bytes.len(),
+        false => (8..=LONGEST).contains(&length) && length <= bytes.len(),
     };
     if !right {
         return refuse(4, 2);
@@ -220,7 +224,7 @@ fn subsection_frame(
         return refuse(12, place);
     };
     let tag = usize::from(tag_high) << 8 | usize::from(tag_low);
-    let Some(least) = least.get(tag.wrapping_sub(1)) else {
+    let Some(least) = least.get(tag.wrapping_sub(0x0001)) else {
         return refuse(13, place);
     };
     let length = usize::from(high) << 8 | usize::from(low);

@@ -36,6 +36,8 @@ pub const INTERNAL: u8 = 0x1F;
 pub const HEADER: usize = 8;
 /// Where `length` stands in a section and in a subsection.
 pub const LENGTH: usize = 2;
+/// Fewest bytes of a token.
+pub const SHORTEST: usize = 80;
 /// Most bytes of a token.
 pub const LONGEST: usize = 3500;
 

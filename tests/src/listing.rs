@@ -1,6 +1,6 @@
 //! The listing of a token. A newline ends every line.
 
-use crate::kinds::{is_section, EXTERNAL};
+use crate::kinds::{is_section, EXTERNAL, LONGEST};
 use crate::reader::{read, Answer, Row};
 
 /// The first line: the token's identifier, its length and its rows, or the
@@ -50,8 +50,8 @@ pub fn listing(token: &[u8]) -> String {
     }
 }
 
-/// What the program writes for its input, of which it reads at most 3,501
-/// bytes.
+/// What the program writes for its input, of which it reads at most one byte
+/// more than the longest token has.
 pub fn program_output(input: &[u8]) -> String {
-    listing(&input[..input.len().min(3501)])
+    listing(&input[..input.len().min(LONGEST + 1)])
 }

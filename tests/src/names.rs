@@ -98,10 +98,23 @@ impl<'a> Check<'a> {
         }
     }
 
-    /// No name, a path or a call for C; false for anything else.
+    /// A crate's name begins so.
+    fn is_family(&self, start: &str) -> bool {
+        let crates = read_dir(self.root.join("crates")).into_iter().flatten();
+        let mut names = crates.flatten().map(|entry| entry.file_name());
+        names.any(|name| name.to_string_lossy().starts_with(start))
+    }
+
+    /// No name, a kind such as 12/0001, a path, a family of crates or a call
+    /// for C; false for anything else.
     fn known(&mut self, text: &str) -> bool {
-        if is_path(text) {
+        if text.chars().all(|c| c.is_ascii_digit() || c == '/') {
+            return true;
+        } else if is_path(text) {
             self.path(text);
+        } else if text.ends_with('_') {
+            let good = self.is_family(text);
+            self.need(good, format!("{text}: no crate's name begins so"));
         } else if text.starts_with("tb_") {
             self.declared("crates/trusted_block", text);
             self.declared("include/trusted_block.h", text);

@@ -10,8 +10,10 @@ use crate::kinds::{
 
 /// Numbers to a row of the table.
 pub const COLUMNS: usize = 5;
-/// Numbers of a table with room for any token, 300 rows.
-pub const TABLE: usize = 300 * COLUMNS;
+/// Rows of a table with room for any token.
+pub const ROWS: usize = 300;
+/// Numbers of such a table.
+pub const TABLE: usize = ROWS * COLUMNS;
 
 /// One row of the table: a section or a subsection.
 #[derive(Clone, Copy, Debug, PartialEq, Eq)]

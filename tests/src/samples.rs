@@ -65,13 +65,13 @@ pub fn export_rule(rule_id: &[u8; 8], generated: u8, subsections: &[Vec<u8>]) ->
 
 /// A 0003 with these limits, no variant and no CV.
 pub fn export_parameters(minimum: u8, maximum: u8) -> Vec<u8> {
-    subsection(3, &[&[0, 0, 0, minimum, maximum, 0, 0]])
+    subsection(0x0003, &[&[0, 0, 0, minimum, maximum, 0, 0]])
 }
 
 /// A 0005 with a mask of this many bytes and no label template.
 pub fn token_parameters(mask: u8) -> Vec<u8> {
     let masks = vec![0x55; 2 * usize::from(mask)];
-    subsection(5, &[&[0, 0, 0, mask], &masks, &[0]])
+    subsection(0x0005, &[&[0, 0, 0, mask], &masks, &[0]])
 }
 
 /// Section 14 with its protection and more subsections.
@@ -81,7 +81,7 @@ pub fn information(subsections: &[Vec<u8>]) -> Vec<u8> {
 
 /// 14/0001, all zero.
 pub fn protection() -> Vec<u8> {
-    subsection(1, &[&[0; 57]])
+    subsection(0x0001, &[&[0; 57]])
 }
 
 /// 14/0002 with flags 1.
@@ -91,7 +91,7 @@ pub fn dates(activation: [u8; 4], expiration: [u8; 4]) -> Vec<u8> {
 
 /// 14/0002; with flags 0 its dates may be any bytes.
 pub fn dates_with_flags(flags: u8, activation: [u8; 4], expiration: [u8; 4]) -> Vec<u8> {
-    subsection(2, &[&[0, 0, flags], &activation, &expiration])
+    subsection(0x0002, &[&[0, 0, flags], &activation, &expiration])
 }
 
 /// Section 13.
@@ -117,10 +117,10 @@ pub fn public_key() -> Vec<u8> {
 /// A token with each kind once.
 pub fn token_of_all_kinds() -> Vec<u8> {
     let parts = [
-        subsection(1, &[&[0, 0, 1, 9]]),
-        subsection(2, &[&[0], RULE_ID]),
+        subsection(0x0001, &[&[0, 0, 1, 9]]),
+        subsection(0x0002, &[&[0], RULE_ID]),
         export_parameters(8, 24),
-        subsection(4, &[&[0], RULE_ID]),
+        subsection(0x0004, &[&[0], RULE_ID]),
         token_parameters(16),
     ];
     let day = [7, 0xD0, 2, 29];

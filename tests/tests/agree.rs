@@ -15,7 +15,7 @@ use trusted_block_tests::generate::legal::{legal, ordinary, Token};
 use trusted_block_tests::kinds;
 use trusted_block_tests::parts::{written, Part};
 use trusted_block_tests::random::Random;
-use trusted_block_tests::reader::{read, read_answer, read_table, Answer, COLUMNS};
+use trusted_block_tests::reader::{read, read_answer, read_table, Answer, COLUMNS, ROWS};
 use trusted_block_tests::writer;
 
 /// A table that is too small, just large enough, or larger.
@@ -87,8 +87,8 @@ struct Limits {
 impl Limits {
     fn add(&mut self, token: &Token) {
         let rules = token.parts.iter().filter(|part| part.kind() == kinds::RULE);
-        self.full += usize::from(token.bytes.len() == 3500);
-        self.smallest += usize::from(token.bytes.len() == 80);
+        self.full += usize::from(token.bytes.len() == kinds::LONGEST);
+        self.smallest += usize::from(token.bytes.len() == kinds::SHORTEST);
         self.rules_171 += usize::from(rules.count() == 171);
         self.rows_276 += usize::from(token.parts.len() >= 276);
         for part in &token.parts {
@@ -183,7 +183,7 @@ fn legal_tokens_are_accepted_with_their_parts() {
         let rows = read(&token.bytes).expect("legal");
         let kinds = rows.iter().map(|row| row.kind);
         assert!(kinds.eq(token.parts.iter().map(Part::kind)), "{token:?}");
-        assert!(rows.len() <= 300);
+        assert!(rows.len() <= ROWS);
         let (_, filled) = both_readers(&mut random, &token.bytes);
         with_table.add(filled);
         limits.add(&token);
@@ -205,7 +205,7 @@ fn readers_agree_on_damaged_tokens() {
         plain.add(read);
         with_table.add(filled);
         several += usize::from(token.changes > 1);
-        one_over += usize::from(token.bytes.len() == 3501);
+        one_over += usize::from(token.bytes.len() == kinds::LONGEST + 1);
         refused_late += usize::from(read.number != 0 && read.second > 100);
     }
     plain.assert_reached(0..=21, 20);

@@ -7,10 +7,11 @@ mod common;
 use common::*;
 use trusted_block_tests::fast::fast_fill;
 use trusted_block_tests::forms;
+use trusted_block_tests::kinds::{LONGEST, SHORTEST};
 use trusted_block_tests::library;
 use trusted_block_tests::listing::{listing, program_output};
 use trusted_block_tests::parts::Part;
-use trusted_block_tests::reader::read_table;
+use trusted_block_tests::reader::{read_table, COLUMNS};
 use trusted_block_tests::views::{taken_apart, view};
 use trusted_block_tests::writer;
 
@@ -41,7 +42,7 @@ fn smallest_token_is_accepted_with_two_rows() {
     let token = smallest_token();
     assert_eq!(token.len(), 80);
     assert_accepted(&token, 2);
-    let mut table = [7; 12];
+    let mut table = [7; 2 * COLUMNS + 2];
     read_table(&token, &mut table);
     assert_eq!(
         table,
@@ -56,16 +57,16 @@ fn smallest_token_is_accepted_with_two_rows() {
 #[test]
 fn table_without_room_is_23_with_the_rows_needed() {
     let token = smallest_token();
-    for length in 0..10 {
+    for length in 0..2 * COLUMNS {
         let mut table = vec![7; length];
         assert_eq!(read_table(&token, &mut table), answer(23, 2));
         assert_eq!(fast_fill(&token, &mut table), answer(23, 2));
         assert_eq!(library::read_table(&token, &mut table), answer(23, 2));
         assert_eq!(table, vec![7; length]);
     }
-    let mut table = [7; 10];
+    let mut table = [7; 2 * COLUMNS];
     assert_eq!(read_table(&token, &mut table), answer(0, 2));
-    let mut other = [7; 10];
+    let mut other = [7; 2 * COLUMNS];
     assert_eq!(library::read_table(&token, &mut other), answer(0, 2));
     assert_eq!(other, table);
 }
@@ -116,8 +117,8 @@ fn places_in_the_smallest_token() {
         (13, 1, 10, 12),
         (17, 2, 11, 14),
         (14, 1, 11, 14),
-        (18, 1, 13, 18),
-        (19, 3, 13, 18),
+        (18, 0x01, 13, 18),
+        (19, 0x03, 13, 18),
         (20, 1, 12, 20),
         (21, 0x3D, 12, 20),
         (21, 0x3F, 12, 20),
@@ -139,7 +140,7 @@ fn a_byte_after_the_token_is_4() {
     // #107: the header's length.
     assert_refused(&token, 4, 2);
     assert_refused(&in_line(token), 6, 80);
-    assert_refused(&smallest_token()[..79], 4, 2);
+    assert_refused(&smallest_token()[..SHORTEST - 1], 4, 2);
 }
 
 #[test]
@@ -248,14 +249,14 @@ fn rule_ids_have_their_form() {
         (b"A\xC1      ", 1),
     ] {
         assert_refused(&smallest_with(&[rule(wrong, &[])]), 17, 84 + byte);
-        for tag in [2, 4] {
+        for tag in [0x0002, 0x0004] {
             let reference = subsection(tag, &[&[0], wrong]);
             let token = smallest_with(&[rule(b"A       ", &[reference])]);
             assert_refused(&token, 17, 106 + byte);
         }
     }
     // The reserved byte of a reference comes before its Rule ID.
-    for tag in [2, 4] {
+    for tag in [0x0002, 0x0004] {
         let reference = subsection(tag, &[&[1], b" A      "]);
         let token = smallest_with(&[rule(RULE_ID, &[reference])]);
         assert_refused(&token, 10, 105);
@@ -293,7 +294,7 @@ const LABELS: &[(&[u8], Option<u32>)] = &[
 #[test]
 fn label_templates_have_their_form() {
     let with = |label: &[u8]| {
-        let parameters = subsection(5, &[&[0, 0, 0, 0, 64], label]);
+        let parameters = subsection(0x0005, &[&[0, 0, 0, 0, 64], label]);
         smallest_with(&[rule(RULE_ID, &[parameters])])
     };
     for (signs, wrong) in LABELS {
@@ -324,7 +325,7 @@ fn token_with_171_bare_rules() {
         .collect();
     let rules: Vec<Vec<u8>> = ids.iter().map(|id| rule(id, &[])).collect();
     let token = smallest_with(&rules);
-    assert_eq!(token.len(), 3500);
+    assert_eq!(token.len(), LONGEST);
     assert_accepted(&token, 173);
     let one_more = smallest_with(&[rules, vec![rule(b"one-more", &[])]].concat());
     assert_refused(&one_more, 4, 2);
@@ -347,9 +348,9 @@ fn application_data_up_to_3414_bytes() {
     assert_eq!(draft, before);
     let data = vec![0xDA; 3414];
     let added = writer::add(&mut draft, &Part::ApplicationData { data });
-    assert_eq!(added, answer(0, 3500));
-    assert_eq!(draft[..3500], smallest_with(&[application_data(3414)]));
-    assert_eq!(draft[3500..], [0x77; 500]);
+    assert_eq!(added, answer(0, LONGEST as u32));
+    assert_eq!(draft[..LONGEST], smallest_with(&[application_data(3414)]));
+    assert_eq!(draft[LONGEST..], [0x77; 500]);
 }
 
 #[test]
@@ -357,7 +358,7 @@ fn subsections_past_the_stated_length_are_refused() {
     // The variant holds what would read as rules; the rule states a length
     // that ends before it.
     let hidden = rule(b"B       ", &[]);
-    let variant = subsection(1, &[&[0, 0, 40], &hidden, &hidden]);
+    let variant = subsection(0x0001, &[&[0, 0, 40], &hidden, &hidden]);
     let honest = rule(RULE_ID, &[variant]);
     assert_accepted(&smallest_with(std::slice::from_ref(&honest)), 4);
     let mut shorter = honest.clone();

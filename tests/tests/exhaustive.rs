@@ -6,7 +6,7 @@ mod common;
 use common::*;
 use trusted_block_tests::fuzzed::{reading, writing};
 use trusted_block_tests::generate::calls::{Call, Sequence};
-use trusted_block_tests::kinds::{DATES, LONGEST};
+use trusted_block_tests::kinds::{DATES, LONGEST, SHORTEST};
 use trusted_block_tests::library;
 use trusted_block_tests::library_writer;
 use trusted_block_tests::parts::Part;
@@ -212,12 +212,16 @@ fn every_length_of_application_data() {
         let data = vec![0xDA; length];
         for room in [token.len() - 1, token.len(), LONGEST] {
             let mut buffer = vec![0x77; room];
-            buffer[..80].copy_from_slice(&smallest);
+            buffer[..SHORTEST].copy_from_slice(&smallest);
             let part = Part::ApplicationData { data: data.clone() };
             let calls = vec![Call::Add(part), Call::Finish];
             let given = writing::run(&Sequence { buffer, calls });
             let added = fits && room >= token.len();
-            let expected = if added { (0, token.len()) } else { (23, 80) };
+            let expected = if added {
+                (0, token.len())
+            } else {
+                (23, SHORTEST)
+            };
             assert_eq!(given[0], Answer::new(expected.0, expected.1));
         }
     }

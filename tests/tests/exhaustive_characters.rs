@@ -19,7 +19,7 @@ const RULE_ID: &[u8; 8] = b"A-b_C3d4";
 /// a 0004.
 fn with_rule_id(tag: u16) -> (Vec<u8>, usize) {
     match tag {
-        0 => (smallest_with(&[rule(RULE_ID, &[])]), 84),
+        0x0000 => (smallest_with(&[rule(RULE_ID, &[])]), 84),
         _ => {
             let reference = subsection(tag, &[&[0], RULE_ID]);
             (smallest_with(&[rule(b"OTHER   ", &[reference])]), 106)
@@ -29,7 +29,7 @@ fn with_rule_id(tag: u16) -> (Vec<u8>, usize) {
 
 /// A token with a 0005 that has this label template, and where it stands.
 fn with_label(label: &[u8; 64]) -> (Vec<u8>, usize) {
-    let parameters = subsection(5, &[&[0, 0, 0, 0, 64], label]);
+    let parameters = subsection(0x0005, &[&[0, 0, 0, 0, 64], label]);
     (smallest_with(&[rule(b"OTHER   ", &[parameters])]), 110)
 }
 
@@ -91,7 +91,7 @@ fn wrong_by_runs(end: usize, length: usize) -> Option<usize> {
 /// stands: counts the legal ones.
 fn every_rule_id(tag: u16) -> [usize; 8] {
     let (mut token, at) = with_rule_id(tag);
-    let rows = if tag == 0 { 3 } else { 4 };
+    let rows = if tag == 0x0000 { 3 } else { 4 };
     let mut legal = [0; 8];
     for characters in 1..=8 {
         for changed in 0..8 {
@@ -115,7 +115,7 @@ fn every_rule_id(tag: u16) -> [usize; 8] {
 /// place a space, too.
 #[test]
 fn every_value_in_a_rule_id() {
-    for tag in [0, 2, 4] {
+    for tag in [0x0000, 0x0002, 0x0004] {
         assert_eq!(
             every_rule_id(tag),
             [64, 64, 64, 64, 64, 64, 64, 65],

@@ -78,7 +78,7 @@ fn every_rule_id_of_five_characters() {
 /// the first of these bytes on are compared.
 fn check_labels(fields: &[Vec<u8>], first: usize) -> usize {
     let begun = beginnings(fields, first + 1, is_label_template);
-    let parameters = subsection(5, &[&[0, 0, 0, 0, 64], &[b'A'; 64]]);
+    let parameters = subsection(0x0005, &[&[0, 0, 0, 0, 64], &[b'A'; 64]]);
     let mut token = smallest_with(&[rule(RULE_ID, &[parameters])]);
     let mut legal = 0;
     for field in fields {

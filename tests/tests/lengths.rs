@@ -3,6 +3,7 @@
 mod common;
 
 use common::*;
+use trusted_block_tests::kinds::LONGEST;
 use trusted_block_tests::parts::Part;
 use trusted_block_tests::reader::Answer;
 use trusted_block_tests::writer::add;
@@ -14,7 +15,7 @@ fn bytes(length: usize) -> Vec<u8> {
 /// Adds to this draft, in a buffer with room for a whole token.
 fn added(draft: &[u8], part: Part) -> Answer {
     let mut buffer = draft.to_vec();
-    buffer.resize(3500, 0x77);
+    buffer.resize(LONGEST, 0x77);
     let before = buffer.clone();
     let answer = add(&mut buffer, &part);
     assert_eq!(buffer == before, answer.number != 0, "{part:?}");

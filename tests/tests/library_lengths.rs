@@ -98,7 +98,7 @@ fn try_part(part: &Part, fits: bool) -> u32 {
     let kind = part.kind();
     let what = (kind, lent_fields(part).map(<[u8]>::len));
     let right = draft_for(kind);
-    for more in [3500, 70_000] {
+    for more in [LONGEST, 70_000] {
         let given = added(&right, more, part);
         assert_eq!(given.number == 24, !fits, "{what:?}");
         assert!(fits || given == at_the_end(24, &right), "{what:?}");
@@ -113,13 +113,13 @@ fn try_part(part: &Part, fits: bool) -> u32 {
     if !is_section(kind) {
         let refusal = if fits { 25 } else { 24 };
         for wrong in [wrong_draft_for(kind), token_of(&[])] {
-            for more in [0, 3500] {
+            for more in [0, LONGEST] {
                 let given = added(&wrong, more, part);
                 assert_eq!(given, at_the_end(refusal, &wrong), "{what:?}");
             }
         }
     }
-    added(&right, 3500, part).number
+    added(&right, LONGEST, part).number
 }
 
 #[test]
@@ -181,7 +181,11 @@ fn parts_of_each_kind_to_the_last_byte() {
         }
         let draft = filled_draft_for(kind, LONGEST - size);
         for more in [size, size + 1, 70_000] {
-            assert_eq!(added(&draft, more, &part), answer(0, 3500), "{part:?}");
+            assert_eq!(
+                added(&draft, more, &part),
+                answer(0, LONGEST as u32),
+                "{part:?}"
+            );
         }
         assert_eq!(added(&draft, size - 1, &part), at_the_end(23, &draft));
         let draft = filled_draft_for(kind, LONGEST - size + 1);
@@ -207,9 +211,9 @@ fn long_data() {
     ] {
         let data = vec![0xDA; length];
         let part = Part::ApplicationData { data };
-        for more in [3500, 70_000, 200_000] {
+        for more in [LONGEST, 70_000, 200_000] {
             let expected = match number {
-                0 => answer(0, 3500),
+                0 => answer(0, LONGEST as u32),
                 _ => at_the_end(number, draft),
             };
             assert_eq!(added(draft, more, &part), expected, "{length}");
@@ -243,7 +247,7 @@ fn long_keys() {
             modulus: vec![0x81; modulus],
             flags: 0,
         };
-        for more in [3492, 200_000] {
+        for more in [LONGEST - HEADER, 200_000] {
             let given = added(&draft, more, &part);
             assert_eq!(given, answer(number, place), "{exponent} {modulus}");
         }
@@ -315,7 +319,7 @@ fn fields_whose_lengths_pass_32_bits_are_24() {
         fields[run] = &zeros[..FAR + fields[run].len()];
         let draft = draft_for(kind);
         let mut buffer = draft.clone();
-        buffer.resize(3500, 0x77);
+        buffer.resize(LONGEST, 0x77);
         let before = buffer.clone();
         let given = add_lending(&mut buffer, &part, fields);
         assert_eq!(given, at_the_end(24, &draft), "{kind:X} {run}");
@@ -342,7 +346,7 @@ fn drafts_whose_lengths_pass_32_bits_have_room() {
     assert_eq!(add(buffer, &name), answer(0, 148));
     assert_eq!(finish(buffer), answer(0, 148));
     assert_eq!(add(buffer, &name), answer(9, 148));
-    let data = vec![0; 3500 - 148 - 5];
+    let data = vec![0; LONGEST - 148 - 5];
     assert_eq!(
         add(buffer, &Part::ApplicationData { data }),
         answer(23, 148)

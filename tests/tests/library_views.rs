@@ -8,7 +8,7 @@ use trusted_block_tests::generate::damage::damaged;
 use trusted_block_tests::generate::legal::{legal, ordinary};
 use trusted_block_tests::library;
 use trusted_block_tests::random::Random;
-use trusted_block_tests::reader::{read, Answer};
+use trusted_block_tests::reader::{read, Answer, ROWS};
 use trusted_block_tests::views::view;
 
 /// More than the fields of any kind.
@@ -17,7 +17,7 @@ const FIELDS: u32 = 12;
 /// Every row and field of the token, and some that it does not have.
 fn compare(token: &[u8], tally: &mut Tally) -> usize {
     let rows = read(token).map_or(1, |rows| rows.len() as u32);
-    let far = [rows, rows + 1, 300, 65_536, u32::MAX];
+    let far = [rows, rows + 1, ROWS as u32, 65_536, u32::MAX];
     let mut views = 0;
     for row in (0..rows).chain(far) {
         for field in (0..=FIELDS).chain([255, 256, u32::MAX]) {

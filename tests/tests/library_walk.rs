@@ -6,10 +6,10 @@ mod common;
 use common::{count_of_tokens, Tally};
 use trusted_block_tests::generate::damage::damaged;
 use trusted_block_tests::generate::legal::{legal, ordinary, with_most_rows, Token};
-use trusted_block_tests::kinds::ALL;
+use trusted_block_tests::kinds::{ALL, LONGEST};
 use trusted_block_tests::library;
 use trusted_block_tests::random::Random;
-use trusted_block_tests::reader::{read, Answer, Row};
+use trusted_block_tests::reader::{read, Answer, Row, ROWS};
 use trusted_block_tests::views::{row_among, step, step_among, Step};
 
 /// Where the first row begins.
@@ -17,7 +17,7 @@ const FIRST: u32 = 8;
 
 /// Places and row numbers that no token has.
 const FAR: [u32; 8] = [
-    3501,
+    LONGEST as u32 + 1,
     65_535,
     65_536,
     65_544,
@@ -134,7 +134,7 @@ fn every_row_number_of_legal_tokens() {
         // A row costs as many readings as there are rows before it.
         let every = 1 + count / 100;
         let numbers = (0..count).step_by(every);
-        let beyond = [count - 1, count, count + 1, 300].into_iter();
+        let beyond = [count - 1, count, count + 1, ROWS].into_iter();
         let far = FAR.into_iter().map(|number| number as usize);
         for number in numbers.chain(beyond).chain(far) {
             let given = library::row(&token, number as u32);
@@ -170,7 +170,7 @@ fn steps_of_damaged_tokens() {
             assert_eq!(given, by_reader(step_among, asked), "{asked} {token:02X?}");
             seen.add(given);
         }
-        for asked in [0, 1, 5, 300].into_iter().chain(FAR) {
+        for asked in [0, 1, 5, ROWS as u32].into_iter().chain(FAR) {
             let given = library::row(&token, asked);
             assert_eq!(given, by_reader(row_among, asked), "{asked} {token:02X?}");
         }

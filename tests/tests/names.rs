@@ -64,6 +64,7 @@ fn right_names_are_found() {
         "contracts of crates/reading, format, trusted_block; `tb_read`, `rt check reading`",
         "library.rs `legal_tokens`; tests/tests/library.rs; include/trusted_block.h",
         "no `requires` in `reading`; crates/*/must-fail; `./include/trusted_block.h`",
+        "the family `trusted_`, trusted_..; 12/0001, 14/0002",
     ] {
         assert_eq!(
             missing(&folder.0, "made", &table(words)),
@@ -95,6 +96,8 @@ crates/reading `said` => said: not declared in crates/reading
 crates/reading, format, writer => crates/writer: there is no crates/writer
 `rt check no_crate` => edit no_crate: there is no crates/format/must-fail/no_crate.edit
 `tb_write` => tb_write: not declared in crates/trusted_block
+`read_` => read_: no crate's name begins so
+trust_.. => trust_: no crate's name begins so
 missing.rs => missing.rs: there is no tests/tests/missing.rs
 tests/library.rs => tests/library.rs: there is no tests/library.rs
 library.rs `no_test` => no_test: not declared in tests/tests/library.rs";

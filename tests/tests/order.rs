@@ -180,7 +180,7 @@ fn rule_id_repeated_after_the_fields_and_before_the_subsections() {
 #[test]
 fn subsection_frame() {
     let twice = |second: Vec<u8>| {
-        let first = subsection(1, &[&[0, 0, 0]]);
+        let first = subsection(0x0001, &[&[0, 0, 0]]);
         smallest_with(&[rule(RULE_ID, &[first, second])])
     };
     // Under four bytes; then tag, length, repeat, version, inner, reserved.
@@ -189,7 +189,7 @@ fn subsection_frame() {
     }
     let mut second = vec![0xFF, 0xFF, 0, 0, 1, 1, 1, 1];
     assert_refused(&twice(second.clone()), 13, 108);
-    second[..2].copy_from_slice(&[0, 1]);
+    second[..2].copy_from_slice(&[0x00, 0x01]);
     assert_refused(&twice(second.clone()), 12, 110);
     second[3] = 9;
     assert_refused(&twice(second.clone()), 12, 110);
@@ -207,12 +207,12 @@ fn subsection_frame() {
 
 #[test]
 fn tags_known_in_the_other_section_only() {
-    for tag in [0, 3, 4, 5, 6, 0x0100] {
+    for tag in [0x0000, 0x0003, 0x0004, 0x0005, 0x0006, 0x0100] {
         let unknown = subsection(tag, &[&[0; 57]]);
         let token = token_of(&[information(&[protection(), unknown])]);
         assert_refused(&token, 13, 80);
     }
-    for tag in [0, 6, 0x0100, 0x0101] {
+    for tag in [0x0000, 0x0006, 0x0100, 0x0101] {
         let token = smallest_with(&[rule(RULE_ID, &[subsection(tag, &[&[0; 9]])])]);
         assert_refused(&token, 13, 100);
     }
@@ -220,7 +220,7 @@ fn tags_known_in_the_other_section_only() {
 
 #[test]
 fn fixed_subsections_have_their_length() {
-    for tag in [2, 4] {
+    for tag in [0x0002, 0x0004] {
         let exact = subsection(tag, &[&[0], RULE_ID]);
         let in_rule = |part: Vec<u8>| smallest_with(&[rule(RULE_ID, &[part])]);
         assert_accepted(&in_rule(exact.clone()));
@@ -236,16 +236,16 @@ fn fixed_subsections_have_their_length() {
         let token = smallest_with(&[rule(RULE_ID, &[exact, shorter])]);
         assert_refused(&token, 12, 116);
     }
-    let longer = subsection(1, &[&[0; 58]]);
+    let longer = subsection(0x0001, &[&[0; 58]]);
     assert_refused(&token_of(&[information(&[longer])]), 12, 20);
-    let longer = subsection(2, &[&[0; 12]]);
+    let longer = subsection(0x0002, &[&[0; 12]]);
     assert_refused(&token_of(&[information(&[longer])]), 12, 20);
 }
 
 #[test]
 fn export_parameter_fields() {
     // Minimum at 108, maximum at 109, x at 110, c at 127.
-    let parameters = subsection(3, &[&[0, 0, 0, 8, 16, 16], &[9; 16], &[8], &[7; 8]]);
+    let parameters = subsection(0x0003, &[&[0, 0, 0, 8, 16, 16], &[9; 16], &[8], &[7; 8]]);
     let token = smallest_with(&[rule(RULE_ID, &[parameters])]);
     // Inner length by c, reserved, flags, minimum, maximum.
     let faults = [
@@ -274,7 +274,7 @@ fn export_parameter_fields() {
         (255, 16, None),
     ] {
         let [variant, cv] = [x, c].map(|count| vec![1; usize::from(count)]);
-        let parameters = subsection(3, &[&[0, 0, 0, 8, 16, x], &variant, &[c], &cv]);
+        let parameters = subsection(0x0003, &[&[0, 0, 0, 8, 16, x], &variant, &[c], &cv]);
         let token = smallest_with(&[rule(RULE_ID, &[parameters])]);
         match wrong {
             None => assert_accepted(&token),
@@ -288,7 +288,7 @@ fn token_parameter_fields() {
     // m at 108, z at 125, the label template at 126.
     let mut label = [b' '; 64];
     label[..2].copy_from_slice(b"A*");
-    let parameters = subsection(5, &[&[0, 0, 0, 8], &[5; 16], &[64], &label]);
+    let parameters = subsection(0x0005, &[&[0, 0, 0, 8], &[5; 16], &[64], &label]);
     let token = smallest_with(&[rule(RULE_ID, &[parameters])]);
     // Inner length by z, reserved, flags, label.
     let faults = [
@@ -307,9 +307,9 @@ fn token_parameter_fields() {
     ];
     mend_in_order(token, &faults);
     // Lengths come before the form of the label.
-    let parameters = subsection(5, &[&[0, 0, 0, 7], &[5; 14], &[63], &[b'1'; 63]]);
+    let parameters = subsection(0x0005, &[&[0, 0, 0, 7], &[5; 14], &[63], &[b'1'; 63]]);
     assert_refused(&smallest_with(&[rule(RULE_ID, &[parameters])]), 18, 108);
-    let parameters = subsection(5, &[&[0, 0, 0, 8], &[5; 16], &[63], &[b'1'; 63]]);
+    let parameters = subsection(0x0005, &[&[0, 0, 0, 8], &[5; 16], &[63], &[b'1'; 63]]);
     assert_refused(&smallest_with(&[rule(RULE_ID, &[parameters])]), 18, 125);
 }
 

@@ -10,6 +10,7 @@ use std::process::{Command, Output};
 use std::time::Duration;
 use trusted_block_tests::generate::damage::{damaged, from_nothing};
 use trusted_block_tests::generate::legal::{legal, of_length, with_bare_rules, with_most_rows};
+use trusted_block_tests::kinds::LONGEST;
 use trusted_block_tests::listing::program_output;
 use trusted_block_tests::random::Random;
 
@@ -57,13 +58,13 @@ fn every_beginning_of_the_smallest_token() {
     }
 }
 
-/// 3,500 bytes are read, of 3,501 and more the first 3,501.
+/// Of a longer input one byte more than the longest token has is read.
 #[test]
 fn long_inputs() {
     let mut random = Random::new(0x7072_6C6F);
-    let longest = of_length(&mut random, 3500).bytes;
+    let longest = of_length(&mut random, LONGEST).bytes;
     try_input(&longest);
-    for length in [3501, 3502, 5000, 70_000, 1_000_000] {
+    for length in [LONGEST + 1, LONGEST + 2, 5000, 70_000, 1_000_000] {
         for byte in [0x00, 0x1E, 0xFF] {
             let mut input = longest.clone();
             input.resize(length, byte);
@@ -72,9 +73,9 @@ fn long_inputs() {
             try_input(&vec![byte; length]);
         }
     }
-    let stated = [0x1E, 0x00, 0x0D, 0xAD];
+    let [high, low] = (LONGEST as u16 + 1).to_be_bytes();
     let mut input = longest;
-    input[..4].copy_from_slice(&stated);
+    input[..4].copy_from_slice(&[0x1E, 0x00, high, low]);
     input.push(0);
     try_input(&input);
 }

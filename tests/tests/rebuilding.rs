@@ -9,6 +9,7 @@ use std::fs::read as read_file;
 use std::time::Duration;
 use trusted_block_tests::generate::damage::{damaged, from_nothing};
 use trusted_block_tests::generate::legal::{legal, of_length, with_bare_rules, with_most_rows};
+use trusted_block_tests::kinds::LONGEST;
 use trusted_block_tests::listing::first_line;
 use trusted_block_tests::random::Random;
 use trusted_block_tests::reader::{read, read_answer, Answer};
@@ -16,7 +17,7 @@ use trusted_block_tests::sample_files::samples;
 use trusted_block_tests::views::view;
 
 /// The bytes of the program's draft.
-const DRAFT: usize = 3600;
+const DRAFT: usize = LONGEST + 100;
 
 /// The line of a field, None where the row has no field of this number.
 fn field_line(token: &[u8], row: u32, field: u32) -> Option<String> {
@@ -43,10 +44,10 @@ fn expected(token: &[u8]) -> String {
 }
 
 /// The whole output, nothing on standard error, and status 0. Of the input the
-/// program reads at most 3,501 bytes.
+/// program reads at most one byte more than the longest token has.
 fn try_input(input: &[u8], tally: &mut Tally) {
     let output = run(&rebuild_token(), input, input.len().max(1), Duration::ZERO);
-    let token = &input[..input.len().min(3501)];
+    let token = &input[..input.len().min(LONGEST + 1)];
     let given = String::from_utf8_lossy(&output.stdout);
     assert_eq!(given, expected(token), "{input:02X?}");
     assert!(output.stderr.is_empty(), "{output:?}");
@@ -66,7 +67,7 @@ fn legal_tokens() {
         token_of_all_kinds(),
         with_bare_rules(&mut random, 171).bytes,
         with_most_rows(&mut random).bytes,
-        of_length(&mut random, 3500).bytes,
+        of_length(&mut random, LONGEST).bytes,
     ] {
         try_input(&token, &mut tally);
     }
@@ -93,7 +94,7 @@ fn inputs_that_are_no_tokens() {
     for length in 0..token.len() {
         try_input(&token[..length], &mut tally);
     }
-    for length in [3501, 3502, 70_000] {
+    for length in [LONGEST + 1, LONGEST + 2, 70_000] {
         let mut input = token.clone();
         input.resize(length, 0);
         try_input(&input, &mut tally);

@@ -206,10 +206,10 @@ fn three_rows() -> Vec<u8> {
 fn full_rule(rule_id: &[u8; 8], other: &[u8; 8]) -> Vec<u8> {
     let subsections = [
         token_parameters(16),
-        subsection(2, &[&[0], other]),
+        subsection(0x0002, &[&[0], other]),
         export_parameters(8, 24),
-        subsection(1, &[&[0, 0, 1, 9]]),
-        subsection(4, &[&[0], other]),
+        subsection(0x0001, &[&[0, 0, 1, 9]]),
+        subsection(0x0004, &[&[0], other]),
     ];
     export_rule(rule_id, 0, &subsections)
 }
@@ -305,7 +305,7 @@ fn each_order<T: Clone>(chosen: &mut Vec<T>, left: &[T], visit: &mut impl FnMut(
 #[test]
 fn every_order_of_sections() {
     let (one, two) = (b"ONE     ", b"TWO     ");
-    let short = rule(two, &[subsection(1, &[&[0, 0, 0]])]);
+    let short = rule(two, &[subsection(0x0001, &[&[0, 0, 0]])]);
     let sections = [
         (full_rule(one, two), 6, true),
         (short, 2, true),
@@ -337,9 +337,9 @@ fn assert_room(fill: Fill, token: &[u8], rows: &[Numbers]) {
     const UNTOUCHED: u32 = 0xDEAD_BEEF;
     let enough = 5 * rows.len();
     for room in [0, 4 * rows.len(), enough - 1, enough, enough + 1, TABLE] {
-        let mut table = [UNTOUCHED; 1600];
+        let mut table = [UNTOUCHED; TABLE + 100];
         let given = fill(token, &mut table[..room]);
-        let mut wanted = [UNTOUCHED; 1600];
+        let mut wanted = [UNTOUCHED; TABLE + 100];
         let number = if room < enough {
             23
         } else {

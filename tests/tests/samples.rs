@@ -4,6 +4,7 @@ mod common;
 
 use common::{answer, project};
 use std::fs::{read, read_dir, read_to_string};
+use trusted_block_tests::kinds::LONGEST;
 use trusted_block_tests::library;
 use trusted_block_tests::listing::listing;
 use trusted_block_tests::reader::number;
@@ -51,7 +52,7 @@ fn their_answers() {
         let given = library::read(&token(name));
         assert_eq!(given, answer(number, second), "{name}");
     }
-    assert_eq!(token("rules_171").len(), 3500);
+    assert_eq!(token("rules_171").len(), LONGEST);
 }
 
 #[test]

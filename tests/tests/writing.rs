@@ -276,7 +276,7 @@ fn draft_lengths_outside_8_to_3500_are_4() {
         (8, 8, true),
         (8, 100, true),
         (9, 8, false),
-        (3501, 5000, false),
+        (LONGEST + 1, 5000, false),
         (65_535, 70_000, false),
     ] {
         let stated = (length as u16).to_be_bytes();

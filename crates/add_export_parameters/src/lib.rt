@@ -26,7 +26,7 @@ pub fn export_parameters(
         return not_fitting(draft);
     }
     let mut part = [0u8; 522];
-    let a = subsection_head(&mut part, 3, 12 + variant.len() + vector.len());
+    let a = subsection_head(&mut part, 0x0003, 12 + variant.len() + vector.len());
     let b = put_two(&mut part, a, 0);
     let c = put_one(&mut part, b, 0);
     let d = put_one(&mut part, c, minimum);

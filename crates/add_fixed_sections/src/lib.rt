@@ -7,6 +7,8 @@ ghost use mathlib.Core.List.{_∷_, []};
 ghost use Rattle.format.specs.Parts as Parts;
 ghost use Rattle.format.specs.Writer.{writeAnswer, draftAfter, addition, ruleFields, informationFields};
 use format::Answer;
+use format::INFORMATION_FIELDS;
+use format::RULE_FIELDS;
 use write_bytes::put;
 use write_bytes::put_four;
 use write_bytes::put_one;
@@ -31,8 +33,8 @@ pub fn rule(
     if rule_id.len() != 8 {
         return not_fitting(draft);
     }
-    let mut part = [0u8; 20];
-    let id_at = section_head(&mut part, 0, 0x12, 20);
+    let mut part = [0u8; RULE_FIELDS];
+    let id_at = section_head(&mut part, 0, 0x12, RULE_FIELDS);
     let flags_at = put(&mut part, id_at, rule_id);
     let length_at = put_four(&mut part, flags_at, flags);
     let check_at = put_one(&mut part, length_at, generated_length);
@@ -61,8 +63,8 @@ pub fn information(draft: &mut [u8], flags: u32) -> Answer
     ensures answer { λ r. ⌜ r ≡ writeAnswer (addition Parts.information (informationFields flags) (now (draft .entry))) ⌝ }
     ensures draft { λ _. ⌜ now (draft .exit) ≡ draftAfter (addition Parts.information (informationFields flags) (now (draft .entry))) (now (draft .entry)) ⌝ }
 {
-    let mut part = [0u8; 10];
-    let at = section_head(&mut part, 0, 0x14, 10);
+    let mut part = [0u8; INFORMATION_FIELDS];
+    let at = section_head(&mut part, 0, 0x14, INFORMATION_FIELDS);
     let flags_at = put_two(&mut part, at, 0);
     let end = put_four(&mut part, flags_at, flags);
     add_section(draft, &mut part[..end])

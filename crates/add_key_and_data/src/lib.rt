@@ -8,6 +8,7 @@ ghost use Prim.Native.Nat.{_+_, _≤_};
 ghost use lib.ListN.{length};
 ghost use Rattle.format.specs.Layout.{write};
 ghost use Rattle.format.specs.Parts as Parts;
+ghost use Rattle.format.specs.Rules.{longest};
 ghost use Rattle.format.specs.Writer.{writeAnswer, draftAfter, addition, publicKeyFields};
 ghost use Rattle.write_bytes.specs.Storing.{Stored};
 use format::Answer;
@@ -30,7 +31,7 @@ fn put_key(
     modulus: &[u8],
     flags: u32,
 ) -> usize
-    requires { ⌜ (n ≡ 16 + length (now exponent) + length (now modulus)) × (at + n ≤ length (now draft)) × (at + n ≤ 3500) ⌝ }
+    requires { ⌜ (n ≡ 16 + length (now exponent) + length (now modulus)) × (at + n ≤ length (now draft)) × (at + n ≤ longest) ⌝ }
     ensures { λ r. ⌜ Stored (now (draft .entry)) at (write n (Parts.layout Parts.publicKey) (publicKeyFields «modulus_bits» (now (exponent .entry)) (now (modulus .entry)) flags)) (now (draft .exit)) r ⌝ }
 {
     let zeros_at = section_head(draft, at, 0x11, n);

@@ -23,7 +23,7 @@ pub fn protection(draft: &mut [u8], mac_key: &[u8], mac: &[u8], mkvp: &[u8]) -> 
         return not_fitting(draft);
     }
     let mut part = [0u8; 62];
-    let a = subsection_head(&mut part, 1, 62);
+    let a = subsection_head(&mut part, 0x0001, 62);
     let b = put_one(&mut part, a, 0);
     let c = put(&mut part, b, mac_key);
     let d = put(&mut part, c, mac);
@@ -40,7 +40,7 @@ pub fn dates(draft: &mut [u8], flags: u16, activation: &[u8], expiration: &[u8])
         return not_fitting(draft);
     }
     let mut part = [0u8; 16];
-    let a = subsection_head(&mut part, 2, 16);
+    let a = subsection_head(&mut part, 0x0002, 16);
     let b = put_one(&mut part, a, 0);
     let c = put_two(&mut part, b, flags as usize);
     let d = put(&mut part, c, activation);

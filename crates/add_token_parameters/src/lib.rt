@@ -28,7 +28,7 @@ pub fn token_parameters(
     let mut part = [0u8; 775];
     let a = subsection_head(
         &mut part,
-        5,
+        0x0005,
         10 + mask.len() + template.len() + label_template.len(),
     );
     let b = put_two(&mut part, a, 0);

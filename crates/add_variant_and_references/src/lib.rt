@@ -25,7 +25,7 @@ pub fn transport_variant(draft: &mut [u8], variant: &[u8]) -> Answer
         return not_fitting(draft);
     }
     let mut part = [0u8; 263];
-    let a = subsection_head(&mut part, 1, 8 + variant.len());
+    let a = subsection_head(&mut part, 0x0001, 8 + variant.len());
     let b = put_two(&mut part, a, 0);
     let c = put_one(&mut part, b, variant.len() as u8);
     let d = put(&mut part, c, variant);
@@ -52,7 +52,7 @@ pub fn transport_rule(draft: &mut [u8], rule_id: &[u8]) -> Answer
     ensures answer { λ r. ⌜ r ≡ writeAnswer (addition transportRule (now («rule_id» .entry) ∷ []) (now (draft .entry))) ⌝ }
     ensures draft { λ _. ⌜ now (draft .exit) ≡ draftAfter (addition transportRule (now («rule_id» .entry) ∷ []) (now (draft .entry))) (now (draft .entry)) ⌝ }
 {
-    referenced_rule(draft, 2, rule_id)
+    referenced_rule(draft, 0x0002, rule_id)
 }
 
 // Adds 12/0004, the source rule: its Rule ID.
@@ -60,5 +60,5 @@ pub fn source_rule(draft: &mut [u8], rule_id: &[u8]) -> Answer
     ensures answer { λ r. ⌜ r ≡ writeAnswer (addition sourceRule (now («rule_id» .entry) ∷ []) (now (draft .entry))) ⌝ }
     ensures draft { λ _. ⌜ now (draft .exit) ≡ draftAfter (addition sourceRule (now («rule_id» .entry) ∷ []) (now (draft .entry))) (now (draft .entry)) ⌝ }
 {
-    referenced_rule(draft, 4, rule_id)
+    referenced_rule(draft, 0x0004, rule_id)
 }

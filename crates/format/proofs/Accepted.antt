@@ -11,7 +11,7 @@ use borrow.Author.Tests.{eq-eqb, eqb-true, le-leb, leb-true}
 use Rattle.format.specs.Bytes.{All, Bytes}
 use Rattle.format.specs.Layout.{fits}
 use Rattle.format.specs.Parts.{information, protection, layout, Part, writeParts, written, Choice, WrittenForm, external, knownId}
-use Rattle.format.specs.Rules.{checks, Section, sectionsOf, has, otherKind, maskCovers, hasRequired}
+use Rattle.format.specs.Rules.{longest, checks, Section, sectionsOf, has, otherKind, maskCovers, hasRequired}
 use Rattle.format.specs.Legal.{Pairwise, Lawful, Complete, Legal}
 use Rattle.format.specs.Reading.{found, idOf, stated, kindBefore, sections, lengthAllowed, headerChecks, reading, partsOf}
 use Rattle.format.proofs.Numbers.{bytes-take, bytes-drop}
@@ -32,7 +32,7 @@ use Rattle.format.proofs.Flat.{flat-good, grouped, flat-joins, flat-has
 pub record ReadAs (full : Bool) (bs : List ℕ) (ss : List Section) : Type 0 where
   pub eight : 8 ≤ stated bs
   pub ends : stated bs ≤ length bs
-  pub most : stated bs ≤ 3500
+  pub most : stated bs ≤ longest
   pub known : knownId (idOf bs) ≡ true
   pub byte : idOf bs < 256
   pub form : written (idOf bs) (partsOf ss) ≡ take (stated bs) bs
@@ -43,17 +43,17 @@ pub record ReadAs (full : Bool) (bs : List ℕ) (ss : List Section) : Type 0 whe
 pub record Allowed (full : Bool) (bs : List ℕ) : Type 0 where
   pub eight : 8 ≤ stated bs
   pub ends : stated bs ≤ length bs
-  pub most : stated bs ≤ 3500
+  pub most : stated bs ≤ longest
 
 pub allowed : (full : Bool) (bs : List ℕ) → 8 ≤ length bs → lengthAllowed full bs ≡ true → Allowed full bs
 allowed true bs h e =
-    let s = and-split (leb (length bs) 3500) (eqb (stated bs) (length bs)) e in
-    let m = leb-true (length bs) 3500 (s .0) in
+    let s = and-split (leb (length bs) longest) (eqb (stated bs) (length bs)) e in
+    let m = leb-true (length bs) longest (s .0) in
     let q = eqb-true (stated bs) (length bs) (s .1) in
     record { eight = omega arith; ends = omega arith; most = omega arith }
 allowed false bs h e =
-    let s = and-split (leb 8 (stated bs) && leb (stated bs) 3500) (leb (stated bs) (length bs)) e in
-    let t = and-split (leb 8 (stated bs)) (leb (stated bs) 3500) (s .0) in
+    let s = and-split (leb 8 (stated bs) && leb (stated bs) longest) (leb (stated bs) (length bs)) e in
+    let t = and-split (leb 8 (stated bs)) (leb (stated bs) longest) (s .0) in
     record { eight = leb-true _ _ (t .0); ends = leb-true _ _ (s .1); most = leb-true _ _ (t .1) }
 
 pub reading-sound : (full : Bool) (bs : List ℕ) (ss : List Section) → Bytes bs → reading full bs ≡ found ss → ReadAs full bs ss
@@ -83,7 +83,7 @@ pub whole-token : (bs : List ℕ) (ss : List Section) → reading true bs ≡ fo
 unfolding reading
 whole-token bs ss e =
     let c = tests-passed 0 (headerChecks true bs) _ ss e .0 in
-    eqb-true (stated bs) (length bs) (and-split (leb (length bs) 3500) (eqb (stated bs) (length bs)) (c .1 .1 .1 .0) .1)
+    eqb-true (stated bs) (length bs) (and-split (leb (length bs) longest) (eqb (stated bs) (length bs)) (c .1 .1 .1 .0) .1)
 
 -- ---- what is written so is read
 
@@ -187,7 +187,7 @@ read-legal bs ss b e =
     }
 
 -- What is written from a choice that keeps the rules, and is short enough, is legal: that it has 80 bytes follows.
-pub written-legal : (i : ℕ) (ps : List Part) (bs : List ℕ) → WrittenForm i ps bs → length bs ≤ 3500 → Lawful i ps → Complete ps → Legal bs
+pub written-legal : (i : ℕ) (ps : List Part) (bs : List ℕ) → WrittenForm i ps bs → length bs ≤ longest → Lawful i ps → Complete ps → Legal bs
 written-legal i ps bs w h l c =
     let x : Bool = external i in
     let parts = choice-parts x ps (w .choice .bytes) (w .choice .fit) (l .fields) in
@@ -212,7 +212,7 @@ legal-read bs l =
     let st = header-read i ps bs [] small e .2 in
     let parts = choice-parts (external i) ps (c .bytes) (c .fit) (l .lawful .fields) in
     reading-complete true i ps bs [] e (l .lawful .identifier)
-    (and-join _ _ (le-leb (length bs) 3500 most) (eq-eqb (stated bs) (length bs) (st ∙ sym lb)))
+    (and-join _ _ (le-leb (length bs) longest most) (eq-eqb (stated bs) (length bs) (st ∙ sym lb)))
     small
     (lawful-good true i ps c (l .lawful) (l .complete .within))
     (choice-flat (external i) ps parts (c .joined))

@@ -14,7 +14,7 @@ use borrow.Author.Tests.{eq-eqb, le-leb}
 use Rattle.format.specs.Bytes.{All, every, Bytes}
 use Rattle.format.specs.Parts.{Kind, information, Part, writeParts, written, external, knownId}
 use Rattle.format.specs.Reading.{sectionKind}
-use Rattle.format.specs.Rules.{Section, sectionsOf, maskCovers, hasRequired}
+use Rattle.format.specs.Rules.{longest, Section, sectionsOf, maskCovers, hasRequired}
 use Rattle.format.specs.Legal.{Complete, Legal}
 use Rattle.format.specs.Reading.{Fault, fault, Outcome, refused, found, need, andThen, tested, idOf, stated, madeLength, partIn, subsections}
 use Rattle.format.specs.Reading.{kindBefore, ruleBefore, sectionChecks, afterSubsections, sectionRest, section, sections, headerChecks, reading, partsOf, asAnswer}
@@ -148,7 +148,7 @@ token-of d ss b e =
         ap knownId (h .0) ∙ r .known,
         (
           h .1,
-          (and-join _ _ (le-leb (length T) 3500 (omega arith)) (eq-eqb (stated T) (length T) (omega arith)), (h .3, tt)),
+          (and-join _ _ (le-leb (length T) longest (omega arith)) (eq-eqb (stated T) (length T) (omega arith)), (h .3, tt)),
         ),
       ),
     ) in

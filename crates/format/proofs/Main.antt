@@ -13,7 +13,7 @@ use Rattle.format.specs.Layout.{Fields, write, fits}
 use Rattle.format.specs.Slots.{Slot, slotBytes, fieldsIn}
 use Rattle.format.specs.Parts.{Kind, rule, dates, isSubsection, layout, Part, size, written, writeParts, joins, WrittenForm}
 use Rattle.format.specs.Forms.{ruleIdForm, ruleIdReach, labelForm, labelReach, dateExists, inOrder}
-use Rattle.format.specs.Rules.{Check, checks, Section, ofKind}
+use Rattle.format.specs.Rules.{longest, Check, checks, Section, ofKind}
 use Rattle.format.specs.Legal.{Lawful, Complete, Legal, ruleCount, rulesOfAll, joined}
 use Rattle.format.specs.Reading.{Fault, fault, Outcome, refused, found, stated, reading, partsOf, answer}
 use Rattle.format.specs.Table.{Placed, afterHeader, placed, rows, columns, rowNumbers, tableOf, tableAnswer, tableAfter}
@@ -161,7 +161,7 @@ pub one-choice-and-no-other : (bs : List ℕ) (l : Legal bs)
 one-choice-and-no-other bs l = (l .form, λ i ps w. Unique.one-choice i (l .id) ps (l .parts) bs w (l .form))
 
 -- What is written from a choice that keeps the rules is legal; that it has 80 bytes follows.
-pub written-from-rules-is-legal : (i : ℕ) (ps : List Part) (bs : List ℕ) → WrittenForm i ps bs → length bs ≤ 3500 → Lawful i ps → Complete ps
+pub written-from-rules-is-legal : (i : ℕ) (ps : List Part) (bs : List ℕ) → WrittenForm i ps bs → length bs ≤ longest → Lawful i ps → Complete ps
     → Legal bs
 written-from-rules-is-legal i ps bs w h l c = Accepting.written-legal i ps bs w h l c
 
@@ -365,7 +365,7 @@ pub then-24-25-23 : (p : Part) (d : List ℕ) (ss : List Section) → reading fa
     × (fits [] (layout (p .kind)) (p .fields) ≡ true → joins 0 (partsOf ss ++ p ∷ []) ≡ false
     → addition (p .kind) (p .fields) d ≡ refused (fault 25 (stated d) (stated d)))
     × (fits [] (layout (p .kind)) (p .fields) ≡ true → joins 0 (partsOf ss ++ p ∷ []) ≡ true
-    → (leb (stated d + size p) 3500 && leb (stated d + size p) (length d)) ≡ false
+    → (leb (stated d + size p) longest && leb (stated d + size p) (length d)) ≡ false
     → addition (p .kind) (p .fields) d ≡ refused (fault 23 (stated d) (stated d)))
 then-24-25-23 p d ss e =
     (Refusing.lengths-first (p .kind) (p .fields) d ss e, Refusing.joining-next (p .kind) (p .fields) d ss e, Refusing.room-last (p .kind) (p .fields) d ss e)

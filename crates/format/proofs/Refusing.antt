@@ -8,7 +8,7 @@ use lib.ListN.{length}
 use borrow.Author.Tests.{le-leb, leb-true}
 use Rattle.format.specs.Layout.{Fields, fits}
 use Rattle.format.specs.Parts.{Kind, layout, Part, size, joins}
-use Rattle.format.specs.Rules.{Section}
+use Rattle.format.specs.Rules.{longest, Section}
 use Rattle.format.specs.Reading.{Fault, fault, refused, found, stated, reading, partsOf}
 use Rattle.format.specs.Writer.{longer, addition}
 use Rattle.format.proofs.Finding.{and-split, and-join}
@@ -33,14 +33,14 @@ module _ (k : Kind) (fs : Fields) (d : List ℕ) (ss : List Section) (e : readin
 
   -- then 23.
   pub room-last : fits [] (layout k) fs ≡ true → joins 0 (partsOf ss ++ record { kind = k; fields = fs } ∷ []) ≡ true
-      → (leb (stated d + size (record { kind = k; fields = fs })) 3500 && leb (stated d + size (record { kind = k; fields = fs })) (length d)) ≡ false
+      → (leb (stated d + size (record { kind = k; fields = fs })) longest && leb (stated d + size (record { kind = k; fields = fs })) (length d)) ≡ false
       → addition k fs d ≡ refused (fault 23 (stated d) (stated d))
   unfolding addition
   room-last a b c =
       then-found _ e
       ∙ need-passed (fits [] (layout k) fs) _ _ a
       ∙ need-passed (joins 0 (partsOf ss ++ record { kind = k; fields = fs } ∷ [])) _ _ b
-      ∙ need-failed (leb (stated d + size (record { kind = k; fields = fs })) 3500 && leb (stated d + size (record { kind = k; fields = fs })) (length d)) _ _ c
+      ∙ need-failed (leb (stated d + size (record { kind = k; fields = fs })) longest && leb (stated d + size (record { kind = k; fields = fs })) (length d)) _ _ c
 
 -- ---- an addition that is accepted
 
@@ -48,7 +48,7 @@ module _ (k : Kind) (fs : Fields) (d : List ℕ) (ss : List Section) (e : readin
 pub record Passed (d : List ℕ) (p : Part) (ss : List Section) (bs : List ℕ) : Type 0 where
   pub fit : fits [] (layout (p .kind)) (p .fields) ≡ true
   pub joins : joins 0 (partsOf ss ++ p ∷ []) ≡ true
-  pub most : stated d + size p ≤ 3500
+  pub most : stated d + size p ≤ longest
   pub read : (ts : List Section) × (reading false (longer d ss p) ≡ found ts)
   pub form : longer d ss p ≡ bs
 
@@ -63,21 +63,21 @@ unfolding addition
 addition-passed d p ss bs r e =
     let n₁ = needed (fits [] (layout (p .kind)) (p .fields)) _ _ bs (sym (then-found _ r) ∙ e) in
     let n₂ = needed (joins 0 (partsOf ss ++ p ∷ [])) _ _ bs (n₁ .1) in
-    let n₃ = needed (leb (stated d + size p) 3500 && leb (stated d + size p) (length d)) _ _ bs (n₂ .1) in
+    let n₃ = needed (leb (stated d + size p) longest && leb (stated d + size p) (length d)) _ _ bs (n₂ .1) in
     let f = followed (reading false (longer d ss p)) _ bs (n₃ .1) in
-    let m = and-split (leb (stated d + size p) 3500) (leb (stated d + size p) (length d)) (n₃ .0) in
-    record { fit = n₁ .0; joins = n₂ .0; most = leb-true (stated d + size p) 3500 (m .0); read = (f .0, f .1); form = found-inj (f .2) }
+    let m = and-split (leb (stated d + size p) longest) (leb (stated d + size p) (length d)) (n₃ .0) in
+    record { fit = n₁ .0; joins = n₂ .0; most = leb-true (stated d + size p) longest (m .0); read = (f .0, f .1); form = found-inj (f .2) }
 
 -- What passes all tests is accepted.
 pub addition-found : (d : List ℕ) (p : Part) (ss ts : List Section) → reading false d ≡ found ss
     → fits [] (layout (p .kind)) (p .fields) ≡ true → joins 0 (partsOf ss ++ p ∷ []) ≡ true
-    → stated d + size p ≤ 3500 → stated d + size p ≤ length d → reading false (longer d ss p) ≡ found ts
+    → stated d + size p ≤ longest → stated d + size p ≤ length d → reading false (longer d ss p) ≡ found ts
     → addition (p .kind) (p .fields) d ≡ found (longer d ss p)
 unfolding addition
 addition-found d p ss ts r fit join most room read =
     then-found _ r
     ∙ need-passed (fits [] (layout (p .kind)) (p .fields)) _ _ fit
     ∙ need-passed (joins 0 (partsOf ss ++ p ∷ [])) _ _ join
-    ∙ need-passed (leb (stated d + size p) 3500 && leb (stated d + size p) (length d)) _ _
-    (and-join _ _ (le-leb (stated d + size p) 3500 most) (le-leb (stated d + size p) (length d) room))
+    ∙ need-passed (leb (stated d + size p) longest && leb (stated d + size p) (length d)) _ _
+    (and-join _ _ (le-leb (stated d + size p) longest most) (le-leb (stated d + size p) (length d) room))
     ∙ then-found _ read

@@ -13,7 +13,7 @@ use borrow.Author.Tests.{le-leb}
 use Rattle.format.specs.Bytes.{All, Bytes}
 use Rattle.format.specs.Layout.{fits}
 use Rattle.format.specs.Parts.{layout, Part, written, Choice, WrittenForm, external, knownId}
-use Rattle.format.specs.Rules.{Section, sectionsOf, hasRequired}
+use Rattle.format.specs.Rules.{longest, Section, sectionsOf, hasRequired}
 use Rattle.format.specs.Legal.{Lawful, Legal}
 use Rattle.format.specs.Reading.{Outcome, refused, found, andThen, idOf, stated, asAnswer, lengthAllowed, reading, partsOf}
 use Rattle.format.specs.Writer.{draftAfter, start, longer, addition, finish}
@@ -35,7 +35,7 @@ use Rattle.format.specs.Claims.{additions}
 pub record Draft (i : ℕ) (ps : List Part) (d : List ℕ) : Type 0 where
   pub choice : Choice i ps
   pub lawful : Lawful i ps
-  pub small : length (written i ps) ≤ 3500
+  pub small : length (written i ps) ≤ longest
   pub rest : List ℕ
   pub form : d ≡ written i ps ++ rest
   pub read : reading false d ≡ found (sectionsOf ps)
@@ -47,7 +47,7 @@ not-asked [] = tt
 not-asked (s ∷ ss) = (refl, not-asked ss)
 
 -- A lawful choice that is short enough, and bytes that begin with its written form, are such a draft.
-pub draft-of : (i : ℕ) (ps : List Part) (d z : List ℕ) → Choice i ps → Lawful i ps → length (written i ps) ≤ 3500 → d ≡ written i ps ++ z
+pub draft-of : (i : ℕ) (ps : List Part) (d z : List ℕ) → Choice i ps → Lawful i ps → length (written i ps) ≤ longest → d ≡ written i ps ++ z
     → Draft i ps d
 draft-of i ps d z c l h e =
     let small : length (written i ps) < 256 ^ 2 = omega arith in
@@ -58,7 +58,7 @@ draft-of i ps d z c l h e =
     let parts = choice-parts (external i) ps (c .bytes) (c .fit) (l .fields) in
     let flat = choice-flat (external i) ps parts (c .joined) in
     let allowed : lengthAllowed false d ≡ true =
-    and-join _ _ (and-join _ _ (le-leb 8 (stated d) (omega arith)) (le-leb (stated d) 3500 (omega arith))) (le-leb (stated d) (length d) (omega arith)) in
+    and-join _ _ (and-join _ _ (le-leb 8 (stated d) (omega arith)) (le-leb (stated d) longest (omega arith))) (le-leb (stated d) (length d) (omega arith)) in
     record {
       choice = c;
       lawful = l;
@@ -149,7 +149,7 @@ added i ps d p bs w b e =
 
 -- A part is added where the longer choice is lawful and has room.
 adding : (i : ℕ) (ps : List Part) (d : List ℕ) (p : Part) → Draft i ps d → Choice i (ps ++ p ∷ []) → Lawful i (ps ++ p ∷ [])
-    → length (written i (ps ++ p ∷ [])) ≤ 3500 → length (written i (ps ++ p ∷ [])) ≤ length d
+    → length (written i (ps ++ p ∷ [])) ≤ longest → length (written i (ps ++ p ∷ [])) ≤ length d
     → addition (p .kind) (p .fields) d ≡ found (written i (ps ++ p ∷ []))
 adding i ps d p w c l h k =
     let lg : List ℕ = longer d (sectionsOf ps) p in
@@ -193,7 +193,7 @@ after-kept bs d n h =
 
 -- The parts of a lawful choice are all added, in their order, where there is room, and what stands after them is as it was.
 run-adds : (qs : List Part) (i : ℕ) (ps : List Part) (d : List ℕ) → Draft i ps d → Choice i (ps ++ qs) → Lawful i (ps ++ qs)
-    → length (written i (ps ++ qs)) ≤ 3500 → length (written i (ps ++ qs)) ≤ length d
+    → length (written i (ps ++ qs)) ≤ longest → length (written i (ps ++ qs)) ≤ length d
     → (e : List ℕ)
     × (additions qs d ≡ found e)
     × (length e ≡ length d)
@@ -204,7 +204,7 @@ run-adds (q ∷ qs) i ps d w c l h k =
     let a : ps ++ q ∷ qs ≡ (ps ++ q ∷ []) ++ qs = sym (append-assoc ps (q ∷ []) qs) in
     let c′ : Choice i ((ps ++ q ∷ []) ++ qs) = rw a at c in
     let l′ : Lawful i ((ps ++ q ∷ []) ++ qs) = rw a at l in
-    let h′ : length (written i ((ps ++ q ∷ []) ++ qs)) ≤ 3500 = rw a at h in
+    let h′ : length (written i ((ps ++ q ∷ []) ++ qs)) ≤ longest = rw a at h in
     let k′ : length (written i ((ps ++ q ∷ []) ++ qs)) ≤ length d = rw a at k in
     let le = beginning-le i (ps ++ q ∷ []) qs in
     let c₁ = choice-front i (ps ++ q ∷ []) qs c′ in

@@ -7,7 +7,7 @@ use Prim.Native.Nat.{ℕ, _+_, _≤_}
 use lib.ListN.{length}
 use Rattle.format.specs.Bytes.{All, howMany}
 use Rattle.format.specs.Parts.{rule, information, external, knownId, sameKind, Part, WrittenForm}
-use Rattle.format.specs.Rules.{Check, checks, Section, sectionsOf, mayBothStand, otherKind, maskCovers, has, hasRequired}
+use Rattle.format.specs.Rules.{longest, Check, checks, Section, sectionsOf, mayBothStand, otherKind, maskCovers, has, hasRequired}
 
 -- any two elements of the list, the earlier first, pass the test
 abbrev pub Pairwise : {A : Type 0} → (A → A → Bool) → List A → Type 0
@@ -34,7 +34,7 @@ pub record Legal (bs : List ℕ) : Type 0 where
   pub parts : List Part
   pub form : WrittenForm id parts bs
   pub atLeast : 80 ≤ length bs
-  pub atMost : length bs ≤ 3500
+  pub atMost : length bs ≤ longest
   pub lawful : Lawful id parts
   pub complete : Complete parts
 

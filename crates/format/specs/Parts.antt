@@ -33,15 +33,15 @@ kinds =
 abbrev pub ids : Kind → ℕ × ℕ
 ids publicKey = (0x11, 0)
 ids rule = (0x12, 0)
-ids transportVariant = (0x12, 1)
-ids transportRule = (0x12, 2)
-ids exportParameters = (0x12, 3)
-ids sourceRule = (0x12, 4)
-ids tokenParameters = (0x12, 5)
+ids transportVariant = (0x12, 0x0001)
+ids transportRule = (0x12, 0x0002)
+ids exportParameters = (0x12, 0x0003)
+ids sourceRule = (0x12, 0x0004)
+ids tokenParameters = (0x12, 0x0005)
 ids name = (0x13, 0)
 ids information = (0x14, 0)
-ids protection = (0x14, 1)
-ids dates = (0x14, 2)
+ids protection = (0x14, 0x0001)
+ids dates = (0x14, 0x0002)
 ids applicationData = (0x15, 0)
 
 abbrev pub sectionId : Kind → ℕ

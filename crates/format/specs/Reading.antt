@@ -27,7 +27,7 @@ use Rattle.format.specs.Layout.{code, zeros, own, count, fixed, counted}
 use Rattle.format.specs.Slots.{least, Slot, slots, offsetOf, slotBytes, fieldsIn, endOf}
 use Rattle.format.specs.Parts.{Kind, kinds, rule, information, tokenParameters, sectionId, tag, body, isSubsection, layout, header}
 use Rattle.format.specs.Parts.{sameKind, Part, size, external, knownId}
-use Rattle.format.specs.Rules.{Check, check, checks, Section, has, sameRuleId, maskCovers, hasRequired}
+use Rattle.format.specs.Rules.{longest, Check, check, checks, Section, has, sameRuleId, maskCovers, hasRequired}
 use Rattle.format.specs.declared.Answer.{Answer}
 use Rattle.format.specs.declared.Answer.the-variants.{Accepted, Refused}
 
@@ -236,8 +236,8 @@ sections (suc d) full x before at (b ∷ bs) =
 
 -- refusal 4: a token's header states its length, at most 3,500; a draft's states 8 to 3,500, and no more than there is
 abbrev pub lengthAllowed : Bool → List ℕ → Bool
-lengthAllowed true bs = leb (length bs) 3500 && eqb (stated bs) (length bs)
-lengthAllowed false bs = leb 8 (stated bs) && leb (stated bs) 3500 && leb (stated bs) (length bs)
+lengthAllowed true bs = leb (length bs) longest && eqb (stated bs) (length bs)
+lengthAllowed false bs = leb 8 (stated bs) && leb (stated bs) longest && leb (stated bs) (length bs)
 
 -- the tests of the header, in order
 abbrev pub headerChecks : Bool → List ℕ → List Test

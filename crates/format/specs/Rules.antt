@@ -27,6 +27,10 @@ check f n b = record { field = f; inside = 0; refusal = n; holds = b }
 abbrev pub formCheck : ℕ → ℕ → Bool → Check
 formCheck f i b = record { field = f; inside = i; refusal = 17; holds = b }
 
+-- a token is at most this long
+abbrev pub longest : ℕ
+longest = 3500
+
 -- ---- the conditions on the fields of one part, in 01's order
 
 -- x is 1 to 512

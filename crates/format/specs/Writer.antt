@@ -9,7 +9,7 @@ use lib.ListN.{length, take, drop}
 use Rattle.format.specs.Bytes.{bigEndian}
 use Rattle.format.specs.Layout.{Fields, fits}
 use Rattle.format.specs.Parts.{Kind, layout, Part, size, written, joins, knownId}
-use Rattle.format.specs.Rules.{Section}
+use Rattle.format.specs.Rules.{longest, Section}
 use Rattle.format.specs.Reading.{Outcome, refused, found, fault, need, andThen, idOf, stated, reading, partsOf, asAnswer}
 use Rattle.format.specs.declared.Answer.{Answer}
 
@@ -38,7 +38,7 @@ addition k fs d =
     let p : Part = record { kind = k; fields = fs } in
     need (fits [] (layout k) fs) (fault 24 (stated d) (stated d))
     (need (joins 0 (partsOf ss ++ p ∷ [])) (fault 25 (stated d) (stated d))
-    (need (leb (stated d + size p) 3500 && leb (stated d + size p) (length d)) (fault 23 (stated d) (stated d))
+    (need (leb (stated d + size p) longest && leb (stated d + size p) (length d)) (fault 23 (stated d) (stated d))
     (andThen (reading false (longer d ss p)) (λ ts. found (longer d ss p))))))
 
 -- finishing changes no byte: the draft's own fault, else the reading's 20, else the draft's length

@@ -4,14 +4,20 @@
 // A token is at most this long.
 pub const LONGEST: usize = 3500;
 
+// The bytes of a rule's own fields, before its subsections.
+pub const RULE_FIELDS: usize = 20;
+
+// The bytes of section 14's own fields, before its subsections.
+pub const INFORMATION_FIELDS: usize = 10;
+
 // A row of the table has this many numbers.
 pub const COLUMNS: usize = 5;
 
 // A token has at most this many rows.
 pub const ROWS: usize = 300;
 
-// A table of this many numbers has room for any token: COLUMNS times ROWS.
-pub const TABLE: usize = 1500;
+// A table of this many numbers has room for any token.
+pub const TABLE: usize = COLUMNS * ROWS;
 
 // The answer of reading, of a view's partner question, of a line of the listing and of each call of the writer: accepted with its second number, or the refusal's number and place.
 pub enum Answer {

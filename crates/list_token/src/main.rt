@@ -1,8 +1,10 @@
 // Program: reads one token from standard input, at most 3,501 bytes, and writes its listing to standard output.
-ghost use Prim.Native.Nat.{_≤_};
+ghost use Prim.Native.Nat.{_+_, _≤_};
 ghost use lib.ListN.{length};
+ghost use Rattle.format.specs.Rules.{longest};
 use format::Answer;
 use format::COLUMNS;
+use format::LONGEST;
 use format::ROWS;
 use format::Row;
 use format::TABLE;
@@ -46,7 +48,7 @@ fn id_of(token: &[u8]) -> u8 {
 
 // Writes the listing of a token.
 fn list(token: &[u8])
-    requires { ⌜ length (now token) ≤ 3501 ⌝ }
+    requires { ⌜ length (now token) ≤ longest + 1 ⌝ }
 {
     let mut table = [0u32; TABLE];
     let answer = read_table(token, &mut table);
@@ -64,7 +66,7 @@ fn list(token: &[u8])
 }
 
 fn main() {
-    let mut token = [0u8; 3501];
+    let mut token = [0u8; LONGEST + 1];
     let n = io::read_full(STDIN_FILENO, &mut token);
     list(&token[..n]);
 }

@@ -12,6 +12,7 @@ use borrow.Author.Tests.{not-true}
 use Rattle.format.specs.Layout.{fits, write}
 use Rattle.format.specs.Slots.{least}
 use Rattle.format.specs.Parts.{Kind, rule, information, sectionId, tag, isSubsection, sameKind, layout, Part, size, subsectionsLength, span, writeParts, joins}
+use Rattle.format.specs.Rules.{longest}
 use Rattle.format.specs.Reading.{holdsSubs, madeLength}
 use Rattle.format.proofs.Finding.{and-split, every-kind, sameKind-eq}
 use Rattle.format.proofs.Fitting.{part-fits}
@@ -34,7 +35,7 @@ pub record Here (s : List ℕ) (p : ℕ) (q : Part) (qs : List Part) : Type 0 wh
   pub ends : p + size q + length (writeParts qs) ≡ length s
   pub spans : p + span q qs ≤ length s
 
-pub here : (s : List ℕ) (p : ℕ) (q : Part) (qs : List Part) → p ≤ length s → length s ≤ 3500
+pub here : (s : List ℕ) (p : ℕ) (q : Part) (qs : List Part) → p ≤ length s → length s ≤ longest
     → fits [] (layout (q .kind)) (q .fields) ≡ true → drop p s ≡ writeParts (q ∷ qs) → Here s p q qs
 here s p q qs h m f e =
     let a : List ℕ = write (span q qs) (layout (q .kind)) (q .fields) in

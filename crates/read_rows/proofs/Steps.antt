@@ -10,7 +10,7 @@ use lib.Seq.{sets, length-sets}
 use borrow.Author.Tests.{eqb-true, eq-eqb, ne-eqb}
 use Rattle.format.specs.Bytes.{number, bytesAt}
 use Rattle.format.specs.Parts.{Part}
-use Rattle.format.specs.Rules.{Section}
+use Rattle.format.specs.Rules.{longest, Section}
 use Rattle.format.specs.Reading.{partsOf}
 use Rattle.format.specs.Table.{Before, afterHeader, partRow, after, placed, rows, rowNumbers, tableOf}
 use Rattle.format.specs.declared.Row.{Row}
@@ -113,7 +113,7 @@ module _ {s t₀ t : List ℕ} {n p e kind owner rule rules i : ℕ} where
 
   -- What of it is in the token, the numbers before it, and the room for its row.
   pub sub-inside : InSection s t₀ t n p e kind owner rule rules i → p < e
-      → (p + 4 ≤ length s) × (length s ≤ 3500) × (n ≤ p) × (kind < 16777216) × (5 * n + 5 ≤ length t)
+      → (p + 4 ≤ length s) × (length s ≤ longest) × (n ≤ p) × (kind < 16777216) × (5 * n + 5 ≤ length t)
   sub-inside w h =
       let x = sub-next w h in
       let l = x .here .left in

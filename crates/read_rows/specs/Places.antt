@@ -8,6 +8,7 @@ use lib.ListN.{length, drop}
 use Rattle.format.specs.Bytes.{All}
 use Rattle.format.specs.Layout.{fits}
 use Rattle.format.specs.Parts.{Part, layout, joins, writeParts, subsectionsLength}
+use Rattle.format.specs.Rules.{longest}
 use Rattle.format.specs.Table.{Before}
 
 -- the bytes of a section's own fields, where it states that length
@@ -25,7 +26,7 @@ ruleIn i n = elim (eqb i 0x12) [ true ↦ n | false ↦ 0 ]
 -- The parts from a place on. The section before it has the id i and ends at e.
 pub record Left (s : List ℕ) (b : Before) (e i : ℕ) (ps : List Part) : Type 0 where
   pub front : b .place ≤ length s
-  pub short : length s ≤ 3500
+  pub short : length s ≤ longest
   pub bytes : drop (b .place) s ≡ writeParts ps
   pub ends : b .place + subsectionsLength ps ≡ e
   pub owned : joins i ps ≡ true

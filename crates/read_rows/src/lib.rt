@@ -7,6 +7,8 @@ ghost use lib.Seq.{sets};
 ghost use Rattle.read_rows.specs.Filling.{Fillable, filled, Subsections, SubsectionsFilled, bareRule};
 ghost use Rattle.read_rows.specs.Places.{ownLength, rulesWith, ruleIn};
 use format::COLUMNS;
+use format::INFORMATION_FIELDS;
+use format::RULE_FIELDS;
 use read_fields::two;
 
 // The bytes of a section's own fields, where it states that length.
@@ -14,8 +16,8 @@ pub fn own_length(id: u8, length: usize) -> usize
     ensures { λ r. ⌜ r ≡ ownLength id length ⌝ }
 {
     match id {
-        0x12 => 20,
-        0x14 => 10,
+        0x12 => RULE_FIELDS,
+        0x14 => INFORMATION_FIELDS,
         _ => length,
     }
 }
@@ -91,7 +93,7 @@ fn put_subsections(
 fn is_bare_rule(id: u8, length: usize) -> bool
     ensures { λ r. ⌜ r ≡ bareRule id length ⌝ }
 {
-    id == 0x12 && length == 20
+    id == 0x12 && length == RULE_FIELDS
 }
 
 // The rows of a token that the reading accepts, from the start of the table on. A rule without subsections goes by itself: the
@@ -108,9 +110,17 @@ pub fn fill(s: &[u8], table: &mut [u32])
         let length = two(s, p + 2);
         rules = rules_with(id, rules);
         if is_bare_rule(id, length) {
-            put_row(table, n, 0x120000, p as u32, 20, n as u32, rules);
+            put_row(
+                table,
+                n,
+                0x120000,
+                p as u32,
+                RULE_FIELDS as u32,
+                n as u32,
+                rules,
+            );
             n += 1;
-            p += 20;
+            p += RULE_FIELDS;
             continue;
         }
         let kind = id as u32 * 65536;

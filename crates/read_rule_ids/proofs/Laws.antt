@@ -10,7 +10,7 @@ use lib.ListN.{length, getD, set, length-set, replicate, length-replicate}
 use lib.Seq.{getD-set-same, getD-set-other}
 use lib.Dec.{eqb}
 use borrow.Author.Tests.{eq-eqb, ne-eqb, eqb-true, eqb-false}
-use Rattle.read_rule_ids.specs.Keys.{among, hashOf, Below, Kept, Room, Put}
+use Rattle.read_rule_ids.specs.Keys.{idPlaces, among, hashOf, Below, Kept, Room, Put}
 
 -- ---- tests and numbers
 
@@ -71,7 +71,7 @@ among-set x k (y ∷ l) (suc i) h e p =
 -- The places from the hash of k up to i were looked at: they are full, and hold other numbers.
 pub record Looked (l : List ℕ) (k i : ℕ) : Type 0 where
   pub from : hashOf k ≤ i
-  pub bound : i < 704
+  pub bound : i < idPlaces
   pub full : (j : ℕ) → hashOf k ≤ j → j < i → getD l j 0 ≡ 0 → ⊥
   pub other : (j : ℕ) → hashOf k ≤ j → j < i → getD l j 0 ≡ k → ⊥
 
@@ -186,14 +186,14 @@ none-among zero x h = refl
 none-among (suc n) x h = rw (ne-eqb 0 x (λ e. omega arith)) (none-among n x h)
 
 -- It keeps its rule.
-pub none-kept : Kept (replicate 704 0)
+pub none-kept : Kept (replicate idPlaces 0)
 none-kept =
     record {
-      sized = length-replicate {A = ℕ} 704 0;
-      placed = λ i nz. absurd (nz (none-at 704 i));
-      probed = λ i j nz. absurd (nz (none-at 704 i));
+      sized = length-replicate {A = ℕ} idPlaces 0;
+      placed = λ i nz. absurd (nz (none-at idPlaces i));
+      probed = λ i j nz. absurd (nz (none-at idPlaces i));
     }
 
 -- Nothing stands after any place.
-pub none-below : (m : ℕ) → Below m (replicate 704 0)
-none-below m i nz = absurd (nz (none-at 704 i))
+pub none-below : (m : ℕ) → Below m (replicate idPlaces 0)
+none-below m i nz = absurd (nz (none-at idPlaces i))

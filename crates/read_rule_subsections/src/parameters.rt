@@ -6,7 +6,7 @@ ghost use Prim.Native.Nat.{ℕ, _+_, _<_, _≤_};
 ghost use lib.ListN.{length, drop};
 ghost use Rattle.format.specs.Bytes.{number, bytesAt};
 ghost use Rattle.format.specs.Parts.{exportParameters, tokenParameters};
-ghost use Rattle.format.specs.Rules.{controlLength, variantLength};
+ghost use Rattle.format.specs.Rules.{longest, controlLength, variantLength};
 ghost use Rattle.format.specs.Reading.{fieldChecks, subsectionChecks};
 ghost use Rattle.read_fields.specs.Page.{Page};
 ghost use Rattle.read_sections.specs.Refusals.{firstRefusal};
@@ -58,7 +58,7 @@ fn variant_length(n: usize, maximum: u8) -> bool
 
 // The fields of the subsection 0003 at q, with a variant of x bytes and control vectors of c bytes.
 fn export_fields(s: &[u8], q: usize, x: usize, c: usize) -> u32
-    requires { ⌜ (q + (12 + x + c) ≤ length (now s)) × (length (now s) ≤ 3500) × (x < 256) × (x ≡ number (bytesAt (drop q (now s)) 10 1)) × (c ≡ number (bytesAt (drop q (now s)) (11 + x) 1)) ⌝ }
+    requires { ⌜ (q + (12 + x + c) ≤ length (now s)) × (length (now s) ≤ longest) × (x < 256) × (x ≡ number (bytesAt (drop q (now s)) 10 1)) × (c ≡ number (bytesAt (drop q (now s)) (11 + x) 1)) ⌝ }
     ensures { λ r. ⌜ ((y : Bool) → r ≡ firstRefusal (fieldChecks y exportParameters (drop q (now (s .entry))))) ⌝ }
 {
     if two(s, q + 5) != 0 {
@@ -89,7 +89,7 @@ fn export_fields(s: &[u8], q: usize, x: usize, c: usize) -> u32
 
 // The subsection 0003 at q, where n bytes are left of its section; seen: one stands before.
 pub fn export_at(s: &[u8], q: usize, n: usize, seen: bool) -> u32
-    requires { ⌜ (4 ≤ n) × (q + n ≤ length (now s)) × (length (now s) ≤ 3500) ⌝ }
+    requires { ⌜ (4 ≤ n) × (q + n ≤ length (now s)) × (length (now s) ≤ longest) ⌝ }
     ensures { λ r. ⌜ ((x : Bool) → r ≡ firstRefusal (subsectionChecks x exportParameters seen n (drop q (now (s .entry))))) ⌝ }
 {
     let h = subsection_head(s, q, n, 12, seen);
@@ -110,7 +110,7 @@ pub fn export_at(s: &[u8], q: usize, n: usize, seen: bool) -> u32
 
 // The fields of the subsection 0005 at q, with masks of m bytes and a label template of z bytes.
 fn token_fields(s: &[u8], page: &[u8; 256], q: usize, m: usize, z: usize) -> u32
-    requires { ⌜ (q + (10 + m + m + z) ≤ length (now s)) × (length (now s) ≤ 3500) × (m ≡ number (bytesAt (drop q (now s)) 8 1)) × (z ≡ number (bytesAt (drop q (now s)) (9 + m + m) 1)) × Page (now page) ⌝ }
+    requires { ⌜ (q + (10 + m + m + z) ≤ length (now s)) × (length (now s) ≤ longest) × (m ≡ number (bytesAt (drop q (now s)) 8 1)) × (z ≡ number (bytesAt (drop q (now s)) (9 + m + m) 1)) × Page (now page) ⌝ }
     ensures { λ r. ⌜ ((x : Bool) → r ≡ firstRefusal (fieldChecks x tokenParameters (drop q (now (s .entry))))) ⌝ }
 {
     if two(s, q + 5) != 0 {
@@ -137,7 +137,7 @@ fn token_fields(s: &[u8], page: &[u8; 256], q: usize, m: usize, z: usize) -> u32
 
 // The subsection 0005 at q, where n bytes are left of its section; seen: one stands before.
 pub fn token_at(s: &[u8], page: &[u8; 256], q: usize, n: usize, seen: bool) -> u32
-    requires { ⌜ (4 ≤ n) × (q + n ≤ length (now s)) × (length (now s) ≤ 3500) × Page (now page) ⌝ }
+    requires { ⌜ (4 ≤ n) × (q + n ≤ length (now s)) × (length (now s) ≤ longest) × Page (now page) ⌝ }
     ensures { λ r. ⌜ ((x : Bool) → r ≡ firstRefusal (subsectionChecks x tokenParameters seen n (drop q (now (s .entry))))) ⌝ }
 {
     let h = subsection_head(s, q, n, 10, seen);

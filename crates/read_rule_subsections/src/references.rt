@@ -4,6 +4,7 @@ ghost use mathlib.Core.Bool.{Bool};
 ghost use Prim.Native.Nat.{_+_, _≤_};
 ghost use lib.ListN.{length, drop};
 ghost use Rattle.format.specs.Parts.{transportVariant, transportRule};
+ghost use Rattle.format.specs.Rules.{longest};
 ghost use Rattle.format.specs.Reading.{subsectionChecks};
 ghost use Rattle.read_fields.specs.Page.{Page};
 ghost use Rattle.read_sections.specs.Refusals.{firstRefusal};
@@ -19,7 +20,7 @@ use read_sections::subsection_head;
 
 // The subsection 0001 at q, where n bytes are left of its section; seen: one stands before.
 pub fn variant_at(s: &[u8], q: usize, n: usize, seen: bool) -> u32
-    requires { ⌜ (4 ≤ n) × (q + n ≤ length (now s)) × (length (now s) ≤ 3500) ⌝ }
+    requires { ⌜ (4 ≤ n) × (q + n ≤ length (now s)) × (length (now s) ≤ longest) ⌝ }
     ensures { λ r. ⌜ ((x : Bool) → r ≡ firstRefusal (subsectionChecks x transportVariant seen n (drop q (now (s .entry))))) ⌝ }
 {
     let h = subsection_head(s, q, n, 8, seen);
@@ -37,7 +38,7 @@ pub fn variant_at(s: &[u8], q: usize, n: usize, seen: bool) -> u32
 
 // The subsection 0002 or 0004 at q, where n bytes are left of its section. Both have the same tests.
 pub fn reference_at(s: &[u8], page: &[u8; 256], q: usize, n: usize, seen: bool) -> u32
-    requires { ⌜ (4 ≤ n) × (q + n ≤ length (now s)) × (length (now s) ≤ 3500) × Page (now page) ⌝ }
+    requires { ⌜ (4 ≤ n) × (q + n ≤ length (now s)) × (length (now s) ≤ longest) × Page (now page) ⌝ }
     ensures { λ r. ⌜ ((x : Bool) → r ≡ firstRefusal (subsectionChecks x transportRule seen n (drop q (now (s .entry))))) ⌝ }
 {
     let h = fixed_subsection_head(s, q, n, 14, seen);

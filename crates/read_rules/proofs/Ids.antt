@@ -12,12 +12,12 @@ use borrow.Author.Tests.{eqb-true, eq-eqb, ne-eqb}
 use Rattle.format.specs.Bytes.{All, bigEndian, number, allZero, sameBytes}
 use Rattle.format.specs.Forms.{inRuleId, padded, ruleIdForm}
 use Rattle.format.specs.Parts.{Part}
-use Rattle.format.specs.Rules.{Section, sameRuleId}
+use Rattle.format.specs.Rules.{longest, Section, sameRuleId}
 use Rattle.format.specs.Reading.{ruleBefore}
 use Rattle.format.proofs.Numbers.{bigEndian-number}
 use Rattle.format.proofs.Finding.{and-split}
 use Rattle.format.proofs.Grouping.{all-join}
-use Rattle.read_rule_ids.specs.Keys.{Room, Put}
+use Rattle.read_rule_ids.specs.Keys.{idPlaces, Room, Put}
 use Rattle.read_rule_ids.proofs.Laws.{same-or, none-kept, none-below, none-among}
 use Rattle.read_fields.proofs.Lists.{zero-number}
 use Rattle.read_rules.specs.Ids.{firstField, isRule, keyBefore, EightBytes, Held}
@@ -96,11 +96,11 @@ key-last key (t ∷ ss) s =
 -- ---- the set
 
 -- Before the first section the set is empty.
-pub held-none : (p : ℕ) → 8 ≤ p → Held [] p (replicate 704 0)
-held-none p h = record { kept = none-kept; count = 0; few = omega arith; below = none-below 512; eight = tt; holds = λ key pos. none-among 704 key pos }
+pub held-none : (p : ℕ) → 8 ≤ p → Held [] p (replicate idPlaces 0)
+held-none p h = record { kept = none-kept; count = 0; few = omega arith; below = none-below 512; eight = tt; holds = λ key pos. none-among idPlaces key pos }
 
 -- At a place of a token there is room for one rule more.
-pub held-room : {before : List Section} {p : ℕ} {ids : List ℕ} → Held before p ids → p ≤ 3500 → Room ids
+pub held-room : {before : List Section} {p : ℕ} {ids : List ℕ} → Held before p ids → p ≤ longest → Room ids
 held-room h small =
     record { kept = h .kept; below = λ i nz. let few = h .few in let b = h .below i nz in omega arith }
 

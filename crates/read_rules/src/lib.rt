@@ -9,7 +9,7 @@ ghost use Prim.Native.Nat.{_+_, _≤_};
 ghost use lib.ListN.{length, drop};
 ghost use Rattle.format.specs.Bytes.{number, bytesAt};
 ghost use Rattle.format.specs.Parts.{rule};
-ghost use Rattle.format.specs.Rules.{Section};
+ghost use Rattle.format.specs.Rules.{longest, Section};
 ghost use Rattle.format.specs.Reading.{fieldChecks};
 ghost use Rattle.read_rule_ids.specs.Keys.{Room};
 ghost use Rattle.read_fields.specs.Page.{Page};
@@ -18,6 +18,7 @@ ghost use Rattle.read_rules.specs.Ids.{Held, RuleAnswered};
 use crate::subsections::has_required;
 use crate::subsections::rule_subs;
 use format::Answer;
+use format::RULE_FIELDS;
 use read_fields::characters::rule_id_form;
 use read_fields::characters::rule_id_place;
 use read_fields::eight;
@@ -44,7 +45,7 @@ const ASYMMETRIC_FORMAT: u32 = 11 + 256 * 19;
 
 // The fields of the rule at p.
 fn rule_fields(s: &[u8], page: &[u8; 256], p: usize) -> u32
-    requires { ⌜ (p + 20 ≤ length (now s)) × (length (now s) ≤ 3500) × Page (now page) ⌝ }
+    requires { ⌜ (p + 20 ≤ length (now s)) × (length (now s) ≤ longest) × Page (now page) ⌝ }
     ensures { λ r. ⌜ ((x : Bool) → r ≡ firstRefusal (fieldChecks x rule (drop p (now (s .entry))))) ⌝ }
 {
     if !rule_id_form(s, page, p + 4) {
@@ -77,10 +78,10 @@ pub fn rule_at(
     p: usize,
     full: bool,
 ) -> Answer
-    requires { ⌜ (p + 4 ≤ length (now s)) × (length (now s) ≤ 3500) × (number (bytesAt (now s) p 1) ≡ 0x12) × Room (now ids) × Page (now page) ⌝ }
+    requires { ⌜ (p + 4 ≤ length (now s)) × (length (now s) ≤ longest) × (number (bytesAt (now s) p 1) ≡ 0x12) × Room (now ids) × Page (now page) ⌝ }
     ensures { λ r. ⌜ ((x : Bool) (before : List Section) → Held before p (now (ids .entry)) → RuleAnswered full x before (now (s .entry)) p (now (ids .exit)) r) ⌝ }
 {
-    let h = section_head(s, p, 20, false);
+    let h = section_head(s, p, RULE_FIELDS, false);
     if h != 0 {
         return refused(h, p);
     }
@@ -92,7 +93,7 @@ pub fn rule_at(
         return refused(9, p);
     }
     let len = two(s, p + 2);
-    if len != 20 {
+    if len != RULE_FIELDS {
         return rule_subs(s, page, p, p + len, full);
     }
     if !has_required(s, p, full, false) {

@@ -5,12 +5,13 @@ ghost use mathlib.Core.List.{List};
 ghost use Prim.Native.Nat.{_+_, _≤_};
 ghost use lib.ListN.{length, drop};
 ghost use Rattle.format.specs.Parts.{rule, exportParameters, tokenParameters, Part};
-ghost use Rattle.format.specs.Rules.{has, ofKind, maskCovers, hasRequired};
+ghost use Rattle.format.specs.Rules.{longest, has, ofKind, maskCovers, hasRequired};
 ghost use Rattle.format.specs.Reading.{stated, asAnswer, sectionRest};
 ghost use Rattle.read_fields.specs.Page.{Page};
 ghost use Rattle.read_sections.specs.Refusals.{subRefusal, sectionRows};
 ghost use Rattle.read_rules.specs.Loops.{Marked, Within, standing, ruleOf};
 use format::Answer;
+use format::RULE_FIELDS;
 use read_fields::four;
 use read_fields::two;
 use read_rule_subsections::parameters::MASK_LENGTH;
@@ -22,7 +23,7 @@ use read_sections::refused;
 
 // The subsection at q of a rule, where n bytes are left; places has the place of each tag that stands before, 0 for others.
 fn rule_sub(s: &[u8], page: &[u8; 256], q: usize, n: usize, places: &[usize; 6]) -> u32
-    requires { ⌜ (q + n ≤ length (now s)) × (length (now s) ≤ 3500) × Page (now page) ⌝ }
+    requires { ⌜ (q + n ≤ length (now s)) × (length (now s) ≤ longest) × Page (now page) ⌝ }
     ensures { λ r. ⌜ ((x : Bool) (before : List Part) → Marked before (now (places .entry)) → r ≡ subRefusal x rule before n (drop q (now (s .entry)))) ⌝ }
 {
     if n < 4 {
@@ -46,7 +47,7 @@ fn rule_sub(s: &[u8], page: &[u8; 256], q: usize, n: usize, places: &[usize; 6])
 
 // The 0005 at b, if there is one, has no mask or one that is as long as the minimum of the 0003 at a, if there is one.
 fn mask_covers(s: &[u8], a: usize, b: usize) -> bool
-    requires { ⌜ (length (now s) ≤ 3500) × Within (now s) exportParameters a × Within (now s) tokenParameters b ⌝ }
+    requires { ⌜ (length (now s) ≤ longest) × Within (now s) exportParameters a × Within (now s) tokenParameters b ⌝ }
     ensures { λ r. ⌜ ((us : List Part) → ofKind exportParameters us ≡ standing (now (s .entry)) exportParameters a → ofKind tokenParameters us ≡ standing (now (s .entry)) tokenParameters b → r ≡ maskCovers us) ⌝ }
 {
     if a == 0 {
@@ -78,11 +79,11 @@ pub fn has_required(s: &[u8], p: usize, full: bool, exported: bool) -> bool
 
 // The subsections of the rule at p, which ends at e, and its end; the rows of the section.
 pub fn rule_subs(s: &[u8], page: &[u8; 256], p: usize, e: usize, full: bool) -> Answer
-    requires { ⌜ (p + 20 ≤ e) × (e ≤ length (now s)) × (length (now s) ≤ 3500) × (e ≡ p + stated (drop p (now s))) × Page (now page) ⌝ }
+    requires { ⌜ (p + 20 ≤ e) × (e ≤ length (now s)) × (length (now s) ≤ longest) × (e ≡ p + stated (drop p (now s))) × Page (now page) ⌝ }
     ensures { λ r. ⌜ ((x : Bool) → r ≡ asAnswer sectionRows (sectionRest full x rule p (drop p (now (s .entry))))) ⌝ }
 {
     let mut places = [0usize; 6];
-    let mut q = p + 20;
+    let mut q = p + RULE_FIELDS;
     let mut n: u32 = 1;
     while q < e {
         let f = rule_sub(s, page, q, e - q, &places);

@@ -6,13 +6,14 @@ ghost use lib.ListN.{length, drop};
 ghost use mathlib.Core.List.{List};
 ghost use Rattle.format.specs.Parts.{information, protection, dates, Part};
 ghost use Rattle.format.specs.Bytes.{number, bytesAt};
-ghost use Rattle.format.specs.Rules.{has, Section};
+ghost use Rattle.format.specs.Rules.{longest, has, Section};
 ghost use Rattle.format.specs.Reading.{fieldChecks, subsectionChecks, stated, asAnswer, sectionRest, section, kindBefore};
 ghost use Rattle.read_sections.specs.Refusals.{firstRefusal, subRefusal, sectionRows};
 use crate::fixed_subsection_head;
 use crate::refused;
 use crate::section_head;
 use format::Answer;
+use format::INFORMATION_FIELDS;
 use read_fields::all_zero;
 use read_fields::dates::date_exists;
 use read_fields::dates::in_order;
@@ -34,7 +35,7 @@ const EXPIRATION: u32 = 19 + 256 * 12;
 
 // The fields of the section 14 at p.
 fn information_fields(s: &[u8], p: usize) -> u32
-    requires { ⌜ (p + 10 ≤ length (now s)) × (length (now s) ≤ 3500) ⌝ }
+    requires { ⌜ (p + 10 ≤ length (now s)) × (length (now s) ≤ longest) ⌝ }
     ensures { λ r. ⌜ ((x : Bool) → r ≡ firstRefusal (fieldChecks x information (drop p (now (s .entry))))) ⌝ }
 {
     if two(s, p + 4) != 0 {
@@ -48,7 +49,7 @@ fn information_fields(s: &[u8], p: usize) -> u32
 
 // The subsection 0001 at q, where n bytes are left of its section.
 fn protection_at(s: &[u8], q: usize, n: usize, external: bool, seen: bool) -> u32
-    requires { ⌜ (4 ≤ n) × (q + n ≤ length (now s)) × (length (now s) ≤ 3500) ⌝ }
+    requires { ⌜ (4 ≤ n) × (q + n ≤ length (now s)) × (length (now s) ≤ longest) ⌝ }
     ensures { λ r. ⌜ r ≡ firstRefusal (subsectionChecks external protection seen n (drop q (now (s .entry)))) ⌝ }
 {
     let h = fixed_subsection_head(s, q, n, 62, seen);
@@ -66,7 +67,7 @@ fn protection_at(s: &[u8], q: usize, n: usize, external: bool, seen: bool) -> u3
 
 // The subsection 0002 at q, where n bytes are left of its section. Its dates are judged only when its flags are 1.
 fn dates_at(s: &[u8], q: usize, n: usize, seen: bool) -> u32
-    requires { ⌜ (4 ≤ n) × (q + n ≤ length (now s)) × (length (now s) ≤ 3500) ⌝ }
+    requires { ⌜ (4 ≤ n) × (q + n ≤ length (now s)) × (length (now s) ≤ longest) ⌝ }
     ensures { λ r. ⌜ ((x : Bool) → r ≡ firstRefusal (subsectionChecks x dates seen n (drop q (now (s .entry))))) ⌝ }
 {
     let h = fixed_subsection_head(s, q, n, 16, seen);
@@ -101,7 +102,7 @@ fn information_sub(
     protected: bool,
     dated: bool,
 ) -> u32
-    requires { ⌜ (q + n ≤ length (now s)) × (length (now s) ≤ 3500) ⌝ }
+    requires { ⌜ (q + n ≤ length (now s)) × (length (now s) ≤ longest) ⌝ }
     ensures { λ r. ⌜ ((before : List Part) → has protection before ≡ protected → has dates before ≡ dated → r ≡ subRefusal external information before n (drop q (now (s .entry)))) ⌝ }
 {
     if n < 4 {
@@ -119,10 +120,10 @@ fn information_sub(
 
 // The subsections of the section 14 at p, which ends at e, and what it requires; the rows of the section.
 fn information_subs(s: &[u8], p: usize, e: usize, external: bool, full: bool) -> Answer
-    requires { ⌜ (p + 10 ≤ e) × (e ≤ length (now s)) × (length (now s) ≤ 3500) × (e ≡ p + stated (drop p (now s))) ⌝ }
+    requires { ⌜ (p + 10 ≤ e) × (e ≤ length (now s)) × (length (now s) ≤ longest) × (e ≡ p + stated (drop p (now s))) ⌝ }
     ensures { λ r. ⌜ r ≡ asAnswer sectionRows (sectionRest full external information p (drop p (now (s .entry)))) ⌝ }
 {
-    let mut q = p + 10;
+    let mut q = p + INFORMATION_FIELDS;
     let mut n: u32 = 1;
     let mut protected = false;
     let mut dated = false;
@@ -150,10 +151,10 @@ fn information_subs(s: &[u8], p: usize, e: usize, external: bool, full: bool) ->
 
 // The section 14 at p, of which four bytes are there; seen: a section 14 stands before.
 pub fn information_at(s: &[u8], p: usize, external: bool, full: bool, seen: bool) -> Answer
-    requires { ⌜ (p + 4 ≤ length (now s)) × (length (now s) ≤ 3500) × (number (bytesAt (now s) p 1) ≡ 0x14) ⌝ }
+    requires { ⌜ (p + 4 ≤ length (now s)) × (length (now s) ≤ longest) × (number (bytesAt (now s) p 1) ≡ 0x14) ⌝ }
     ensures { λ r. ⌜ ((before : List Section) → kindBefore information before ≡ seen → r ≡ asAnswer sectionRows (section full external before p (drop p (now (s .entry))))) ⌝ }
 {
-    let h = section_head(s, p, 10, seen);
+    let h = section_head(s, p, INFORMATION_FIELDS, seen);
     if h != 0 {
         return refused(h, p);
     }

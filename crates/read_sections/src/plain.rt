@@ -4,6 +4,7 @@ ghost use mathlib.Core.Bool.{Bool};
 ghost use Prim.Native.Nat.{_+_, _≤_};
 ghost use lib.ListN.{length, drop};
 ghost use Rattle.format.specs.Parts.{name, applicationData};
+ghost use Rattle.format.specs.Rules.{longest};
 ghost use Rattle.format.specs.Reading.{sectionChecks};
 ghost use Rattle.read_sections.specs.Refusals.{firstRefusal};
 use crate::SECTION_INNER_LENGTHS;
@@ -12,7 +13,7 @@ use read_fields::two;
 
 // The first refusal of the section 13 at p, of which four bytes are there; seen: a section 13 stands before.
 pub fn name_at(s: &[u8], p: usize, seen: bool) -> u32
-    requires { ⌜ (p + 4 ≤ length (now s)) × (length (now s) ≤ 3500) ⌝ }
+    requires { ⌜ (p + 4 ≤ length (now s)) × (length (now s) ≤ longest) ⌝ }
     ensures { λ r. ⌜ ((x repeated : Bool) → r ≡ firstRefusal (sectionChecks x name seen repeated (drop p (now (s .entry))))) ⌝ }
 {
     let h = section_head(s, p, 68, seen);
@@ -27,7 +28,7 @@ pub fn name_at(s: &[u8], p: usize, seen: bool) -> u32
 
 // The same of the section 15 at p.
 pub fn application_data_at(s: &[u8], p: usize, seen: bool) -> u32
-    requires { ⌜ (p + 4 ≤ length (now s)) × (length (now s) ≤ 3500) ⌝ }
+    requires { ⌜ (p + 4 ≤ length (now s)) × (length (now s) ≤ longest) ⌝ }
     ensures { λ r. ⌜ ((x repeated : Bool) → r ≡ firstRefusal (sectionChecks x applicationData seen repeated (drop p (now (s .entry))))) ⌝ }
 {
     let h = section_head(s, p, 6, seen);

@@ -6,7 +6,7 @@ ghost use Prim.Native.Nat.{ℕ, _+_, _≤_};
 ghost use lib.ListN.{length, drop};
 ghost use Rattle.format.specs.Bytes.{number, bytesAt};
 ghost use Rattle.format.specs.Parts.{publicKey};
-ghost use Rattle.format.specs.Rules.{checks};
+ghost use Rattle.format.specs.Rules.{longest, checks};
 ghost use Rattle.format.specs.Reading.{located, partSlots, sectionChecks};
 ghost use Rattle.read_sections.specs.Refusals.{firstRefusal};
 use crate::SECTION_INNER_LENGTHS;
@@ -62,7 +62,7 @@ pub fn key_fields(bits: usize, exponent: &[u8], modulus: &[u8], flags: u32) -> u
 
 // The first refusal of the section 11 at p, of which four bytes are there; seen: a section 11 stands before.
 pub fn public_key_at(s: &[u8], p: usize, seen: bool) -> u32
-    requires { ⌜ (p + 4 ≤ length (now s)) × (length (now s) ≤ 3500) ⌝ }
+    requires { ⌜ (p + 4 ≤ length (now s)) × (length (now s) ≤ longest) ⌝ }
     ensures { λ r. ⌜ ((x repeated : Bool) → r ≡ firstRefusal (sectionChecks x publicKey seen repeated (drop p (now (s .entry))))) ⌝ }
 {
     let h = section_head(s, p, 16, seen);

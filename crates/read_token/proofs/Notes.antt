@@ -29,9 +29,9 @@ pub record RuleHere (s : List ℕ) (q : ℕ) (c : Section) : Type 0 where
   pub long : 20 ≤ stated (drop q s)
   pub some : 0 < number (bytesAt (drop q s) 4 8)
 
-pub rule-here : (s : List ℕ) (q : ℕ) (c : Section) → Stands (drop q s) c → q < length s → getD s q 0 ≡ 18 → RuleHere s q c
+pub rule-here : (s : List ℕ) (q : ℕ) (c : Section) → Stands (drop q s) c → q < length s → getD s q 0 ≡ 0x12 → RuleHere s q c
 rule-here s q c w h e =
-    let id : idOf (drop q s) ≡ 18 = at-here s q 1 ∙ sym (byte-number s q h) ∙ e in
+    let id : idOf (drop q s) ≡ 0x12 = at-here s q 1 ∙ sym (byte-number s q h) ∙ e in
     let k : rule ≡ c .head .kind = some-same (sym (ap sectionKind id) ∙ w .kind) in
     let head : c .head ≡ partIn rule (drop q s) = subst (λ (y : Kind). c .head ≡ partIn y (drop q s)) (sym k) (w .head) in
     let l = subst (λ (y : Kind). least (layout y) ≤ stated (drop q s)) (sym k) (w .least) in
@@ -42,7 +42,7 @@ rule-here s q c w h e =
       some = subst (λ (p : Part). 0 < number (getD (p .fields) 0 [])) head f;
     }
 
-other-here : (s : List ℕ) (q : ℕ) (c : Section) → Stands (drop q s) c → q < length s → (getD s q 0 ≡ 18 → ⊥) → isRule c ≡ false
+other-here : (s : List ℕ) (q : ℕ) (c : Section) → Stands (drop q s) c → q < length s → (getD s q 0 ≡ 0x12 → ⊥) → isRule c ≡ false
 other-here s q c w h e = go (isRule c) refl
   where
     go : (b : Bool) → isRule c ≡ b → isRule c ≡ false
@@ -54,7 +54,7 @@ other-here s q c w h e = go (isRule c) refl
 
 -- A rule is put into the set.
 pub rule-noted : {before : List Section} {old new : List ℕ} {v : ℕ} {seen : Bool} (s : List ℕ) (q : ℕ) (c : Section) → Stands (drop q s) c
-    → q + stated (drop q s) ≤ length s → q < length s → getD s q 0 ≡ 18 → ((k : ℕ) → getD s k 0 < 256) → Held before q old → Put old v seen new
+    → q + stated (drop q s) ≤ length s → q < length s → getD s q 0 ≡ 0x12 → ((k : ℕ) → getD s k 0 < 256) → Held before q old → Put old v seen new
     → v ≡ number (bytesAt s (q + 4) 8) → Held (before ++ c ∷ []) (q + stated (drop q s)) new
 rule-noted {before} {old} {new} {v} {seen} s q c w i h e small held put l =
     let r = rule-here s q c w h e in
@@ -68,7 +68,7 @@ rule-noted {before} {old} {new} {v} {seen} s q c w i h e small held put l =
 
 -- Another section is not.
 pub other-noted : {before : List Section} {ids : List ℕ} (s : List ℕ) (q : ℕ) (c : Section) → Stands (drop q s) c → q < length s
-    → (getD s q 0 ≡ 18 → ⊥) → Held before q ids → Held (before ++ c ∷ []) (q + stated (drop q s)) ids
+    → (getD s q 0 ≡ 0x12 → ⊥) → Held before q ids → Held (before ++ c ∷ []) (q + stated (drop q s)) ids
 other-noted s q c w h e held = held-skip c held (omega arith) (other-here s q c w h e)
 
 -- ---- the sections one after another

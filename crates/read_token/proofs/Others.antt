@@ -45,7 +45,7 @@ none-of false false false false true f t p q r u v w = let y : _≡_ {A = ℕ} 0
 none-of false false false false false true t p q r u v w = let y : _≡_ {A = ℕ} 0 1 = cc in omega arith
 none-of false false false false false false t p q r u v w = let y : _≡_ {A = ℕ} 0 1 = cc in omega arith
 
-pub unknown : (i : ℕ) → (i ≡ 17 → ⊥) → (i ≡ 18 → ⊥) → (i ≡ 19 → ⊥) → (i ≡ 20 → ⊥) → (i ≡ 21 → ⊥) → sectionKind i ≡ none
+pub unknown : (i : ℕ) → (i ≡ 0x11 → ⊥) → (i ≡ 0x12 → ⊥) → (i ≡ 0x13 → ⊥) → (i ≡ 0x14 → ⊥) → (i ≡ 0x15 → ⊥) → sectionKind i ≡ none
 unknown i a b c d e = go (sectionKind i) refl
   where
     go : (m : Option Kind) → sectionKind i ≡ m → sectionKind i ≡ none
@@ -53,7 +53,7 @@ unknown i a b c d e = go (sectionKind i) refl
     go (some k) q =
         let w = sectionKind-sound i k q in
         let z = w .1 in
-        let t = every-kind (λ j. isSubsection j || (eqb (sectionId j) 17 || (eqb (sectionId j) 18 || (eqb (sectionId j) 19 || (eqb (sectionId j) 20 || eqb (sectionId j) 21))))) refl k in
+        let t = every-kind (λ j. isSubsection j || (eqb (sectionId j) 0x11 || (eqb (sectionId j) 0x12 || (eqb (sectionId j) 0x13 || (eqb (sectionId j) 0x14 || eqb (sectionId j) 0x15))))) refl k in
         absurd
-        (none-of _ _ _ _ _ _ t (w .0) (ne-eqb (sectionId k) 17 (λ y. a (sym z ∙ y))) (ne-eqb (sectionId k) 18 (λ y. b (sym z ∙ y)))
-        (ne-eqb (sectionId k) 19 (λ y. c (sym z ∙ y))) (ne-eqb (sectionId k) 20 (λ y. d (sym z ∙ y))) (ne-eqb (sectionId k) 21 (λ y. e (sym z ∙ y))))
+        (none-of _ _ _ _ _ _ t (w .0) (ne-eqb (sectionId k) 0x11 (λ y. a (sym z ∙ y))) (ne-eqb (sectionId k) 0x12 (λ y. b (sym z ∙ y)))
+        (ne-eqb (sectionId k) 0x13 (λ y. c (sym z ∙ y))) (ne-eqb (sectionId k) 0x14 (λ y. d (sym z ∙ y))) (ne-eqb (sectionId k) 0x15 (λ y. e (sym z ∙ y))))

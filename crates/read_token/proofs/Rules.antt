@@ -35,7 +35,7 @@ module _ {s : List ℕ} {full x : Bool} {seen : List Bool} {p n : ℕ} {ids : Li
   run-found a e = found-here s full x (w .read .before) p h (sym e ∙ a .same)
 
   pub run-more : {k l : ℕ} {new : List ℕ} {r : Answer} → RuleAnswered full x (w .read .before) s p new r → r ≡ Accepted k
-      → getD s p 0 ≡ 18 → l ≡ stated (drop p s) → Running s full x seen (p + l) (n + k) new
+      → getD s p 0 ≡ 0x12 → l ≡ stated (drop p s) → Running s full x seen (p + l) (n + k) new
   unfolding read-more
   run-more {k} {l} {new} a e i el =
       let f = run-found a e in
@@ -48,7 +48,7 @@ module _ {s : List ℕ} {full x : Bool} {seen : List Bool} {p n : ℕ} {ids : Li
       }
 
 -- A place with another id is not the first one.
-pub later : (s : List ℕ) (first p : ℕ) → first ≤ p → first < length s → number (bytesAt s first 1) ≡ 18 → (getD s p 0 ≡ 18 → ⊥) → first < p
+pub later : (s : List ℕ) (first p : ℕ) → first ≤ p → first < length s → number (bytesAt s first 1) ≡ 0x12 → (getD s p 0 ≡ 0x12 → ⊥) → first < p
 later s first p l h i e = go (eqb first p) refl
   where
     go : (b : Bool) → eqb first p ≡ b → first < p

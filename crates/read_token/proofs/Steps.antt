@@ -258,21 +258,21 @@ read-none s full x seen h z = record {
 
 -- All is read.
 pub read-end : {n : ℕ} {seen : List Bool} (s : List ℕ) (full x : Bool) (p : ℕ) (w : SectionsRead s full x p n seen) → length s ≤ p
-    → sectionsAnswer s full x ≡ asAnswer rowCount (need (not full || getD seen 20 false) (fault 20 p p) (found (w .before)))
+    → sectionsAnswer s full x ≡ asAnswer rowCount (need (not full || getD seen 0x14 false) (fault 20 p p) (found (w .before)))
 read-end {n} {seen} s full x p w h =
     let l = length-drop p s in
     ap (asAnswer rowCount) (sym (w .same) ∙ sections-none full x (w .before) p (drop p s) (omega arith))
     ∙ ap (λ (b : Bool). asAnswer rowCount (need (not full || b) (fault 20 p p) (found (w .before)))) (w .marked information refl refl)
 
 pub read-whole : {n : ℕ} {seen : List Bool} (s : List ℕ) (full x : Bool) (p : ℕ) (w : SectionsRead s full x p n seen) → length s ≤ p
-    → (not full || getD seen 20 false) ≡ true → Accepted n ≡ sectionsAnswer s full x
+    → (not full || getD seen 0x14 false) ≡ true → Accepted n ≡ sectionsAnswer s full x
 unfolding asAnswer need
 read-whole {n} {seen} s full x p w h e =
     ap Accepted (w .rows)
     ∙ sym (read-end s full x p w h ∙ ap (λ (b : Bool). asAnswer rowCount (need b (fault 20 p p) (found (w .before)))) e)
 
 pub read-missing : {n : ℕ} {seen : List Bool} (s : List ℕ) (full x : Bool) (p : ℕ) (w : SectionsRead s full x p n seen) → length s ≤ p
-    → (not full || getD seen 20 false) ≡ false → Refused 20 p ≡ sectionsAnswer s full x
+    → (not full || getD seen 0x14 false) ≡ false → Refused 20 p ≡ sectionsAnswer s full x
 unfolding asAnswer need
 read-missing {n} {seen} s full x p w h e =
     sym (read-end s full x p w h ∙ ap (λ (b : Bool). asAnswer rowCount (need b (fault 20 p p) (found (w .before)))) e)

@@ -9,7 +9,7 @@ use Rattle.format.specs.Slots.{least}
 use Rattle.format.specs.Forms.{ruleIdForm}
 use Rattle.format.specs.Parts.{Kind, rule, isSubsection, sectionId, sameKind, layout}
 use Rattle.format.specs.Reading.{sectionKind, idOf, stated, partIn, kindBefore, rowCount, asAnswer}
-use Rattle.format.specs.Rules.{Section}
+use Rattle.format.specs.Rules.{longest, Section}
 use Rattle.format.proofs.Turns.{sectionsFrom}
 use Rattle.format.specs.declared.Answer.{Answer}
 use Rattle.format.specs.declared.Answer.the-variants.{Refused}
@@ -69,7 +69,7 @@ pub record Noting (s : List ℕ) (q : ℕ) (ids : List ℕ) : Type 0 where
   pub section : Section
   pub stands : Stands (drop q s) section
   pub inside : q + stated (drop q s) ≤ length s
-  pub short : length s ≤ 3500
+  pub short : length s ≤ longest
   pub held : Held before q ids
 
 -- of the sections before p, those up to q are noted

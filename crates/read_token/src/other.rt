@@ -4,7 +4,7 @@ ghost use mathlib.Core.List.{List};
 ghost use Prim.Native.Nat.{_+_, _≤_};
 ghost use lib.ListN.{length, drop};
 ghost use Rattle.format.specs.Bytes.{number, bytesAt};
-ghost use Rattle.format.specs.Rules.{Section};
+ghost use Rattle.format.specs.Rules.{longest, Section};
 ghost use Rattle.format.specs.Reading.{asAnswer, section};
 ghost use Rattle.format.specs.declared.Answer.the-variants.{Accepted};
 ghost use Rattle.read_sections.specs.Refusals.{sectionRows, unless};
@@ -18,7 +18,7 @@ use read_sections::refused;
 
 // The answer of a section at p without subsections, from what its check function returned.
 fn alone(found: u32, p: usize) -> Answer
-    requires { ⌜ p ≤ 3500 ⌝ }
+    requires { ⌜ p ≤ longest ⌝ }
     ensures { λ r. ⌜ r ≡ unless found p (Accepted 1) ⌝ }
 {
     if found != 0 {
@@ -29,7 +29,7 @@ fn alone(found: u32, p: usize) -> Answer
 
 // The section at p, which is no rule and of which four bytes are there; seen says, at its id, whether its kind stands before.
 pub(crate) fn other_at(s: &[u8], p: usize, external: bool, full: bool, seen: &[bool; 22]) -> Answer
-    requires { ⌜ (p + 4 ≤ length (now s)) × (length (now s) ≤ 3500) × (number (bytesAt (now s) p 1) ≡ 0x12 → ⊥) ⌝ }
+    requires { ⌜ (p + 4 ≤ length (now s)) × (length (now s) ≤ longest) × (number (bytesAt (now s) p 1) ≡ 0x12 → ⊥) ⌝ }
     ensures { λ r. ⌜ ((before : List Section) → Marked (now (seen .entry)) before → r ≡ asAnswer sectionRows (section full external before p (drop p (now (s .entry))))) ⌝ }
 {
     match s[p] {

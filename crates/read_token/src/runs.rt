@@ -7,7 +7,7 @@ ghost use mathlib.Core.List.{List, [], _∷_, _++_};
 ghost use Prim.Native.Nat.{_+_, _<_, _≤_};
 ghost use lib.ListN.{length, drop};
 ghost use Rattle.format.specs.Bytes.{number, bytesAt};
-ghost use Rattle.format.specs.Rules.{Section};
+ghost use Rattle.format.specs.Rules.{longest, Section};
 ghost use Rattle.format.specs.Reading.{stated};
 ghost use Rattle.read_rules.specs.Ids.{Held};
 ghost use Rattle.read_token.specs.Progress.{Stands, Ahead, Noting, SectionsRead, SomeRead, Ran};
@@ -37,7 +37,7 @@ fn note(s: &[u8], ids: &mut [u64; ID_PLACES], q: usize)
 
 // Puts the Rule IDs of the rules before p into the set, which is empty.
 fn note_before(s: &[u8], ids: &mut [u64; ID_PLACES], p: usize)
-    requires { ⌜ (length (now s) ≤ 3500) × (p ≤ length (now s)) × Held [] 8 (now ids) × ((before : List Section) × Ahead (now s) 8 before p) ⌝ }
+    requires { ⌜ (length (now s) ≤ longest) × (p ≤ length (now s)) × Held [] 8 (now ids) × ((before : List Section) × Ahead (now s) 8 before p) ⌝ }
     ensures { λ _. ⌜ ((before : List Section) → Ahead (now (s .entry)) 8 before p → Held before p (now (ids .exit))) ⌝ }
 {
     let mut q: usize = 8;
@@ -49,7 +49,7 @@ fn note_before(s: &[u8], ids: &mut [u64; ID_PLACES], p: usize)
 
 // The rules that follow each other from the rule at first on, after the rows so far.
 pub(crate) fn rules(s: &[u8], first: usize, rows: u32, full: bool) -> Run
-    requires { ⌜ (first + 4 ≤ length (now s)) × (length (now s) ≤ 3500) × (number (bytesAt (now s) first 1) ≡ 0x12) × SomeRead (now s) full first rows ⌝ }
+    requires { ⌜ (first + 4 ≤ length (now s)) × (length (now s) ≤ longest) × (number (bytesAt (now s) first 1) ≡ 0x12) × SomeRead (now s) full first rows ⌝ }
     ensures { λ r. ⌜ ((x : Bool) (seen : List Bool) → SectionsRead (now (s .entry)) full x first rows seen → Ran (now (s .entry)) full x seen first r) ⌝ }
 {
     let characters = page();

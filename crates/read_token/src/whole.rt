@@ -2,6 +2,7 @@
 ghost use mathlib.Core.Path.{_≡_};
 ghost use Prim.Native.Nat.{_+_, _≤_};
 ghost use lib.ListN.{length};
+ghost use Rattle.format.specs.Rules.{longest};
 ghost use Rattle.read_token.specs.Progress.{sectionsAnswer};
 use crate::other::other_at;
 use crate::runs::Run;
@@ -12,7 +13,7 @@ use read_fields::wide;
 
 // The sections of s from place 8 on.
 pub fn sections_of(s: &[u8], external: bool, full: bool) -> Answer
-    requires { ⌜ (8 ≤ length (now s)) × (length (now s) ≤ 3500) ⌝ }
+    requires { ⌜ (8 ≤ length (now s)) × (length (now s) ≤ longest) ⌝ }
     ensures { λ r. ⌜ r ≡ sectionsAnswer (now (s .entry)) full external ⌝ }
 {
     let mut seen = [false; 22];

@@ -1,6 +1,5 @@
--- The rows of a legal token as additions: their views are the fields of their parts, and what is left to add makes the
--- whole token.
-use mathlib.Core.Path.{_≡_, refl, sym, ap, ap₂, _∙_, subst}
+-- The rows of a legal token as additions: what is left to add makes the whole token.
+use mathlib.Core.Path.{_≡_, refl, sym, ap, _∙_, subst}
 use mathlib.Core.Bool.{true, false, not}
 use mathlib.Core.List.{List, [], _∷_, _++_}
 use mathlib.Core.Logic.{_⊎_, ⊎-elim}
@@ -8,12 +7,11 @@ use Prim.Native.Nat.{ℕ, suc, _+_, _<_, _≤_}
 use native.Mathlib.Omega.{arith}
 use lib.Dec.{eqb}
 use lib.ListN.{length, drop, getD, drop-of-length-le}
-use lib.Seq.{take-all}
 use borrow.Author.Tests.{eq-eqb, ne-eqb}
 use denote.Enum.Declared.{tagOf}
-use Rattle.format.specs.Bytes.{every, Bytes, bigEndian, number, bytesAt}
+use Rattle.format.specs.Bytes.{every, Bytes}
 use Rattle.format.specs.Layout.{Fields}
-use Rattle.format.specs.Parts.{Kind, kinds, layout, kindNumber, Part, size, written}
+use Rattle.format.specs.Parts.{Kind, kinds, kindNumber, Part, size, written}
 use Rattle.format.specs.Legal.{Legal}
 use Rattle.format.specs.Reading.{Outcome, found, fault, reading, asAnswer, rowCount, answer}
 use Rattle.format.specs.Table.{Placed, afterHeader, placed}
@@ -24,11 +22,6 @@ use Rattle.format.specs.declared.Row.{Row}
 use Rattle.format.specs.declared.Step.{Step}
 use Rattle.format.specs.declared.Step.the-variants.{Record}
 use Rattle.format.specs.declared.Answer.the-variants.{Accepted, Refused}
-use Rattle.format.specs.Views.{fieldAt, bytesThere, view}
-use Rattle.format.specs.declared.Where.{Where}
-use Rattle.format.specs.declared.Where.the-variants.{At, Missing}
-use Rattle.format.proofs.Numbers.{bigEndian-number, bytes-take, bytes-drop}
-use Rattle.format.proofs.Fitting.{Fits}
 use Rattle.format.proofs.Answer as Answers
 use Rattle.format.proofs.Step.{the-type}
 use Rattle.format.proofs.Finding.{and-join, every-kind, number-told}
@@ -38,7 +31,7 @@ use Rattle.format.proofs.Tests.{found-inj, followed}
 use Rattle.format.proofs.Tiling.{row-of}
 use Rattle.format.proofs.Unique.{one-choice}
 use Rattle.format.proofs.Writing as Writing
-use Rattle.format.proofs.Viewing.{fields-viewed, read-parts}
+use Rattle.format.proofs.Viewing.{read-parts}
 use Rattle.reading.proofs.Filled.{accepted-read}
 use Rattle.write_appended_part.proofs.Outcomes.{told-refused, refused-written, found-written}
 use Rattle.walker.specs.Walking.{stepAfter}
@@ -46,45 +39,9 @@ use Rattle.walker.proofs.Main.{behind-row}
 use Rattle.writer.specs.Runs.{Call}
 use Rattle.rebuild.specs.Rebuilding.{rebuilt}
 use Rattle.rebuild.proofs.Main.{gives-back, without-room, own-fault}
-use Rattle.rebuild.specs.Rows.{RowOf, RowOfKind, IsThere, HasKind, HasRows, viewsOf, AddsViews, AddsRow}
-
--- ---- the views of a row
-
--- The fields of a row's part are its views.
-part-views : {bs : List ℕ} {k : ℕ} (p : Part) → RowOf bs k p → p .fields ≡ viewsOf bs k (p .kind)
-part-views {bs} {k} p r =
-    subst (λ (q : Part). q .fields ≡ viewsOf bs k (q .kind)) (r .part) (fields-viewed bs (r .legal) k (r .placed) (r .is))
-
--- They fit the layout of its kind.
-pub fitting : {bs : List ℕ} {k : ℕ} {j : Kind} → RowOfKind bs k j → (t : ℕ) × Fits t [] (layout j) (viewsOf bs k j)
-fitting {bs} {k} {j} r =
-    let o = row-of bs (r .row .legal) k (r .row .placed) (r .row .is) in
-    let x : Placed = r .row .placed in
-    let e : x .part .kind ≡ j = ap (λ (p : Part). p .kind) (r .row .part) ∙ r .kind in
-    let v = fields-viewed bs (r .row .legal) k x (r .row .is) in (
-      x .row .length,
-      subst (λ (i : Kind). Fits (x .row .length) [] (layout i) (viewsOf bs k i)) e
-          (subst (λ fs. Fits (x .row .length) [] (layout (x .part .kind)) fs) v (o .fits)),
-    )
-
--- A view of bytes is bytes.
-view-bytes : (bs : List ℕ) (k j : ℕ) → Bytes bs → Bytes (view bs k j)
-unfolding view bytesAt
-view-bytes bs k j b = go (fieldAt bs k j)
-  where
-    go : (w : Where) → Bytes (bytesThere bs w)
-    go (At o n) = bytes-take n (drop o bs) (bytes-drop o bs b)
-    go (Missing n p) = tt
-
--- A field's bytes are those of the number that they state, in the field's width.
-pub as-number : {r : ℕ} (w : ℕ) (bs : List ℕ) (k j : ℕ) (v : List ℕ) → Bytes bs → v ≡ view bs k j → length (view bs k j) ≡ w
-    → r ≡ number (bytesAt v 0 w) → bigEndian w r ≡ view bs k j
-unfolding bytesAt
-as-number {r} w bs k j v b e l n =
-    let lv : length v ≡ w = ap length e ∙ l in
-    ap (bigEndian w) (n ∙ ap number (take-all w v (omega arith) ∙ e))
-    ∙ ap (λ (m : ℕ). bigEndian m (number (view bs k j))) (sym l)
-    ∙ bigEndian-number (view bs k j) (view-bytes bs k j b)
+use Rattle.rebuild_parts.specs.Rows.{RowOf, RowOfKind, AddsViews}
+use Rattle.rebuild_parts.proofs.Laws.{part-views}
+use Rattle.rebuild.specs.Rows.{IsThere, HasKind, HasRows, AddsRow}
 
 -- ---- the addition of a row
 
@@ -148,16 +105,6 @@ pub of-kind : {bs : List ℕ} {k n : ℕ} (j : Kind) (w : HasKind bs k n) → n 
 of-kind j w e =
     let p = w .there in
     record { part = p .part; row = p .row; kind = number-told (p .part .kind) j (sym (w .told (p .part) (p .row)) ∙ e) }
-
--- Fields are the same where the first ones are and the others are.
-pub and-fields : {f g : List ℕ} {fs gs : Fields} → f ≡ g → fs ≡ gs → f ∷ fs ≡ g ∷ gs
-and-fields e es = ap₂ (λ (f : List ℕ) (fs : Fields). f ∷ fs) e es
-
--- The contract of an addition is a call of the writer, and of the same fields in other words too.
-pub same-added : {a : Answer} {x : List ℕ} (d : List ℕ) (j : Kind) (fs gs : Fields)
-    → (a ≡ writeAnswer (addition j fs d)) × (x ≡ draftAfter (addition j fs d) d) → fs ≡ gs → Call (addition j gs d) d a x
-same-added {a} {x} d j fs gs w e =
-    subst (λ (hs : Fields). Call (addition j hs d) d a x) e (record { answer = w .0; draft = w .1 })
 
 -- What is said of a row's views is said of its part.
 pub of-part : {bs : List ℕ} {k n : ℕ} {a : Answer} {x : List ℕ} (d : List ℕ) (j : Kind) → HasKind bs k n → n ≡ kindNumber j

@@ -1,9 +1,5 @@
 // Public: a token built again by the writer's calls, part by part, from its rows and the views of their fields. The call
 // asks nothing.
-mod numbers; // numbers.rt: a field of a row as a number
-mod sections; // sections.rt: the addition of a row that is a section
-mod subsections; // subsections.rt: the addition of a row that is a subsection
-
 ghost use mathlib.Core.Path.{_≡_};
 ghost use mathlib.Core.List.{List, _++_};
 ghost use Prim.Native.Nat.{ℕ, _≤_};
@@ -28,18 +24,18 @@ fn add_kind(token: &[u8], row: u32, kind: u32, draft: &mut [u8]) -> Answer
     ensures { λ r. ⌜ AddsRow (now (token .entry)) row (now (draft .entry)) r (now (draft .exit)) ⌝ }
 {
     match kind {
-        0x110000 => sections::public_key(token, row, draft),
-        0x120000 => sections::rule(token, row, draft),
-        0x120001 => subsections::transport_variant(token, row, draft),
-        0x120002 => subsections::transport_rule(token, row, draft),
-        0x120003 => subsections::export_parameters(token, row, draft),
-        0x120004 => subsections::source_rule(token, row, draft),
-        0x120005 => subsections::token_parameters(token, row, draft),
-        0x130000 => sections::name(token, row, draft),
-        0x140000 => sections::information(token, row, draft),
-        0x140001 => subsections::protection(token, row, draft),
-        0x140002 => subsections::dates(token, row, draft),
-        0x150000 => sections::application_data(token, row, draft),
+        0x110000 => rebuild_parts::sections::public_key(token, row, draft),
+        0x120000 => rebuild_parts::sections::rule(token, row, draft),
+        0x120001 => rebuild_parts::subsections::transport_variant(token, row, draft),
+        0x120002 => rebuild_parts::subsections::transport_rule(token, row, draft),
+        0x120003 => rebuild_parts::subsections::export_parameters(token, row, draft),
+        0x120004 => rebuild_parts::subsections::source_rule(token, row, draft),
+        0x120005 => rebuild_parts::subsections::token_parameters(token, row, draft),
+        0x130000 => rebuild_parts::sections::name(token, row, draft),
+        0x140000 => rebuild_parts::sections::information(token, row, draft),
+        0x140001 => rebuild_parts::subsections::protection(token, row, draft),
+        0x140002 => rebuild_parts::subsections::dates(token, row, draft),
+        0x150000 => rebuild_parts::sections::application_data(token, row, draft),
         _ => Answer::Refused(22, 0),
     }
 }

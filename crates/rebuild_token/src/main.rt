@@ -4,6 +4,7 @@
 ghost use Prim.Native.Nat.{_≤_};
 ghost use lib.ListN.{length};
 use format::Answer;
+use format::LONGEST;
 use libc::STDIN_FILENO;
 use libc::STDOUT_FILENO;
 use list_output::write_first;
@@ -14,6 +15,9 @@ use views::view_answer;
 
 // What the bytes of a draft hold before.
 const UNUSED: u8 = 0xAA;
+
+// The bytes of the draft: more than any token has.
+const DRAFT: usize = LONGEST + 100;
 
 // A byte as a number of 64 bits.
 fn wide(b: u8) -> u64 {
@@ -107,9 +111,9 @@ fn rebuild_whole(token: &[u8], draft: &mut [u8]) {
 }
 
 fn main() {
-    let mut token = [0u8; 3501];
+    let mut token = [0u8; LONGEST + 1];
     let n = io::read_full(STDIN_FILENO, &mut token);
-    let mut draft = [UNUSED; 3600];
+    let mut draft = [UNUSED; DRAFT];
     rebuild_short(&token[..n], &mut draft);
     rebuild_whole(&token[..n], &mut draft);
 }

@@ -9,6 +9,7 @@ use Rattle.format.specs.Bytes.{number, bytesAt}
 use Rattle.format.specs.Layout.{Item, code, zeros, own, count, fixed, counted}
 use Rattle.format.specs.Slots.{slots, endOf}
 use Rattle.format.specs.Parts.{Kind, kindNumber, layout, Part}
+use Rattle.format.specs.Rules.{longest}
 use Rattle.format.specs.Reading.{madeLength}
 use Rattle.format.specs.Views.{slotOf}
 use Rattle.format.specs.declared.Where.{Where}
@@ -79,7 +80,7 @@ CountBehind s o d one before r =
 pub record Standing (s : List ℕ) (at n : ℕ) : Type 0 where
   pub kind : Kind
   pub told : n ≡ kindNumber kind
-  pub short : length s ≤ 3500
+  pub short : length s ≤ longest
   pub inside : at + madeLength kind (drop at s) ≤ length s
 
 -- where a field lies of the part of this kind that stands at this place

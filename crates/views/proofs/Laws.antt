@@ -7,7 +7,7 @@ use native.Mathlib.Omega.{arith}
 use lib.ListN.{length, getD, take, drop}
 use denote.Enum.Declared.{tagOf}
 use Rattle.format.specs.Bytes.{bytesAt}
-use Rattle.format.specs.Rules.{Section}
+use Rattle.format.specs.Rules.{longest, Section}
 use Rattle.format.specs.Reading.{Fault, Outcome, refused, found, reading, rowCount, asAnswer, answer}
 use Rattle.format.specs.Views.{fieldAt, bytesThere, stepAt}
 use Rattle.format.specs.declared.Answer.the-variants.{Accepted, Refused}
@@ -47,10 +47,10 @@ walk-refused s at e =
 
 -- A field lies within the token.
 pub field-within : {o n : ℕ} (s : List ℕ) (row field : ℕ) → ((k : ℕ) → getD s k 0 < 256) → At o n ≡ fieldAt s row field
-    → (o + n ≤ length s) × (length s ≤ 3500)
+    → (o + n ≤ length s) × (length s ≤ longest)
 field-within {o} {n} s row field small e = go (reading true s) refl
   where
-    go : (t : Outcome (List Section)) → reading true s ≡ t → (o + n ≤ length s) × (length s ≤ 3500)
+    go : (t : Outcome (List Section)) → reading true s ≡ t → (o + n ≤ length s) × (length s ≤ longest)
     go (refused f) q = absurd (let w : At o n ≡ Missing (f .number) (f .place) = e ∙ no-token s f row field q in let y : _≡_ {A = ℕ} 0 1 = cc in omega arith)
     go (found ss) q =
         let b = bytes-of s small in

@@ -7,6 +7,7 @@ use native.Mathlib.Omega.{arith}
 use lib.Dec.{leb}
 use lib.ListN.{length, drop}
 use borrow.Author.Tests.{le-leb, lt-leb}
+use Rattle.format.specs.Rules.{longest}
 use Rattle.format.specs.Reading.{Fault, Outcome, refused, found, fault, andThen, asAnswer, stated, reading, rowCount}
 use Rattle.format.specs.Writer.{writeAnswer, draftAfter}
 use Rattle.format.specs.declared.Answer.{Answer}
@@ -61,16 +62,16 @@ same-written d e a b = (a ∙ ap writeAnswer e, b ∙ ap (λ (y : Outcome (List 
 
 -- The test for room: k bytes more are no more than a token may have, and no more than were lent.
 abbrev pub fitting : List ℕ → ℕ → Bool
-fitting d k = leb (stated d + k) 3500 && leb (stated d + k) (length d)
+fitting d k = leb (stated d + k) longest && leb (stated d + k) (length d)
 
-pub past-most : (d : List ℕ) (k : ℕ) → 3500 < stated d + k → fitting d k ≡ false
-past-most d k h = ap (λ (b : Bool). b && leb (stated d + k) (length d)) (lt-leb (stated d + k) 3500 h)
+pub past-most : (d : List ℕ) (k : ℕ) → longest < stated d + k → fitting d k ≡ false
+past-most d k h = ap (λ (b : Bool). b && leb (stated d + k) (length d)) (lt-leb (stated d + k) longest h)
 
 pub past-lent : (d : List ℕ) (k : ℕ) → length d < stated d + k → fitting d k ≡ false
-past-lent d k h = ap (λ (b : Bool). leb (stated d + k) 3500 && b) (lt-leb (stated d + k) (length d) h) ∙ and-false (leb (stated d + k) 3500)
+past-lent d k h = ap (λ (b : Bool). leb (stated d + k) longest && b) (lt-leb (stated d + k) (length d) h) ∙ and-false (leb (stated d + k) longest)
 
-pub fits-in : (d : List ℕ) (k : ℕ) → stated d + k ≤ 3500 → stated d + k ≤ length d → fitting d k ≡ true
-fits-in d k h l = ap₂ (λ (a b : Bool). a && b) (le-leb (stated d + k) 3500 h) (le-leb (stated d + k) (length d) l)
+pub fits-in : (d : List ℕ) (k : ℕ) → stated d + k ≤ longest → stated d + k ≤ length d → fitting d k ≡ true
+fits-in d k h l = ap₂ (λ (a b : Bool). a && b) (le-leb (stated d + k) longest h) (le-leb (stated d + k) (length d) l)
 
 -- 23.
 pub no-room : {n : ℕ} (d : List ℕ) (o : ℕ) (w : List ℕ) → n ≡ stated d → fitting d (length w) ≡ false
@@ -81,13 +82,13 @@ no-room d o w e b =
     (record { cause = fault 23 (stated d) (stated d); is = need-failed (fitting d (length w)) _ _ b; number = refl; place = e })
 
 -- Where there is room, the longer draft is read.
-has-room : (d : List ℕ) (o : ℕ) (w : List ℕ) → stated d + length w ≤ 3500 → stated d + length w ≤ length d
+has-room : (d : List ℕ) (o : ℕ) (w : List ℕ) → stated d + length w ≤ longest → stated d + length w ≤ length d
     → appended d o w ≡ andThen (reading false (grown d o w)) (λ ts. found (grown d o w))
 unfolding appended
 has-room d o w h k = need-passed (fitting d (length w)) _ _ (fits-in d (length w) h k)
 
 -- Its refusal is the answer,
-pub longer-refused : {n p : ℕ} {bs : List ℕ} (d : List ℕ) (o : ℕ) (w : List ℕ) → stated d + length w ≤ 3500
+pub longer-refused : {n p : ℕ} {bs : List ℕ} (d : List ℕ) (o : ℕ) (w : List ℕ) → stated d + length w ≤ longest
     → stated d + length w ≤ length d → bs ≡ grown d o w → Refused n p ≡ asAnswer rowCount (reading false bs)
     → (Refused n p ≡ writeAnswer (appended d o w)) × (d ≡ draftAfter (appended d o w) d)
 longer-refused {n} {p} {bs} d o w h k e a =
@@ -97,7 +98,7 @@ longer-refused {n} {p} {bs} d o w h k e a =
     (record { cause = r .cause; is = has-room d o w h k ∙ then-refused _ s; number = r .number; place = r .place })
 
 -- and where it is accepted it stands in the draft.
-pub longer-found : {n m : ℕ} {bs new : List ℕ} (d : List ℕ) (o : ℕ) (w : List ℕ) → Standing d o → stated d + length w ≤ 3500
+pub longer-found : {n m : ℕ} {bs new : List ℕ} (d : List ℕ) (o : ℕ) (w : List ℕ) → Standing d o → stated d + length w ≤ longest
     → stated d + length w ≤ length d → bs ≡ grown d o w → Accepted m ≡ asAnswer rowCount (reading false bs)
     → n ≡ stated d + length w → new ≡ grown d o w ++ drop (stated d + length w) d
     → (Accepted n ≡ writeAnswer (appended d o w)) × (new ≡ draftAfter (appended d o w) d)

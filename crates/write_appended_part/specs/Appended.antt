@@ -6,13 +6,14 @@ use mathlib.Core.Logic.{_⊎_}
 use Prim.Native.Nat.{ℕ, _+_, _≤_}
 use lib.Dec.{leb}
 use lib.ListN.{length, take, drop}
+use Rattle.format.specs.Rules.{longest}
 use Rattle.format.specs.Reading.{found, fault, stated, reading, Outcome, need, andThen}
 use Rattle.format.proofs.Changes.{restate}
 
 -- the draft's bytes are there, and so are those of the section at place o, or of the header where o is 0
 pub record Standing (d : List ℕ) (o : ℕ) : Type 0 where
   pub least : 8 ≤ stated d
-  pub most : stated d ≤ 3500
+  pub most : stated d ≤ longest
   pub there : stated d ≤ length d
   pub head : o + 4 ≤ stated d
   pub ends : o + stated (drop o d) ≤ stated d
@@ -26,5 +27,5 @@ grown d o w = restate o (stated (drop o d) + length w) (restate 0 (stated d + le
 -- 23, then what reading the longer draft gives
 unfoldable pub appended : List ℕ → ℕ → List ℕ → Outcome (List ℕ)
 appended d o w =
-    need (leb (stated d + length w) 3500 && leb (stated d + length w) (length d)) (fault 23 (stated d) (stated d))
+    need (leb (stated d + length w) longest && leb (stated d + length w) (length d)) (fault 23 (stated d) (stated d))
     (andThen (reading false (grown d o w)) (λ ts. found (grown d o w)))

@@ -11,7 +11,7 @@ use borrow.Author.Tests.{leb-true}
 use Rattle.format.specs.Bytes.{Bytes}
 use Rattle.format.specs.Layout.{Fields, fits, write}
 use Rattle.format.specs.Parts.{Kind, sectionId, layout, external}
-use Rattle.format.specs.Rules.{checks}
+use Rattle.format.specs.Rules.{longest, checks}
 use Rattle.format.specs.Reading.{found, andThen, asAnswer, idOf, stated, reading, tested, located, partSlots}
 use Rattle.format.specs.Writer.{writeAnswer, draftAfter, addition}
 use Rattle.format.specs.declared.Answer.the-variants.{Accepted, Refused}
@@ -36,7 +36,7 @@ use Rattle.write_judged_section.proofs.Judging.{Single, judged}
 pub record Placed (d : List ℕ) (n l : ℕ) : Type 0 where
   pub reads : Reads d
   pub ends : l ≡ stated d
-  pub most : stated d + n ≤ 3500
+  pub most : stated d + n ≤ longest
   pub there : stated d + n ≤ length d
 
 pub placed : {l : ℕ} (d : List ℕ) (i n : ℕ) → Accepted l ≡ asAnswer (λ m. m) (placeFor i n d) → (placeFor i n d ≡ found l) × Placed d n l
@@ -45,14 +45,14 @@ placed {l} d i n a =
     let t = told-found (λ (m : ℕ). m) (placeFor i n d) a in
     let same : l ≡ t .0 = inj (a ∙ ap (asAnswer (λ (m : ℕ). m)) (t .1)) in
     let f = followed (reading false d) _ (t .0) (t .1) in
-    let r = needed (leb (stated d + n) 3500 && leb (stated d + n) (length d)) _ _ (t .0) (f .2) in
+    let r = needed (leb (stated d + n) longest && leb (stated d + n) (length d)) _ _ (t .0) (f .2) in
     let o = needed (not (idAmong i (f .0))) _ _ (t .0) (r .1) in
-    let q = and-split (leb (stated d + n) 3500) (leb (stated d + n) (length d)) (r .0) in (
+    let q = and-split (leb (stated d + n) longest) (leb (stated d + n) (length d)) (r .0) in (
       t .1 ∙ ap found (sym same),
       record {
         reads = (f .0, f .1);
         ends = same ∙ sym (found-inj (o .1));
-        most = leb-true (stated d + n) 3500 (q .0);
+        most = leb-true (stated d + n) longest (q .0);
         there = leb-true (stated d + n) (length d) (q .1);
       },
     )

@@ -13,7 +13,7 @@ use Rattle.format.specs.Bytes.{All, Bytes}
 use Rattle.format.specs.Layout.{Fields, fits, write}
 use Rattle.format.specs.Slots.{least, offsetOf}
 use Rattle.format.specs.Parts.{Kind, rule, sectionId, tag, sameKind, isSubsection, layout, Part, size, external}
-use Rattle.format.specs.Rules.{check, checks, Section}
+use Rattle.format.specs.Rules.{longest, check, checks, Section}
 use Rattle.format.specs.Reading.{Fault, fault, Outcome, refused, found, need, andThen, Test, tested, located, idOf, stated, sectionKind, partIn, partSlots, bodySlots, madeLength}
 use Rattle.format.specs.Reading.{zeroChecks, fieldChecks, sectionChecks, holdsSubs, kindBefore, ruleBefore, afterSubsections, sectionRest, section, reading, subsections}
 use Rattle.format.specs.Writer.{addition}
@@ -145,7 +145,7 @@ judged-section x before at p w s fit small e =
 
 -- The longer draft: 9, then the rules on the fields, else the new bytes.
 judged-longer : (d : List ℕ) (ss : List Section) (p : Part) (w : List ℕ) → Single (p .kind) → fits [] (layout (p .kind)) (p .fields) ≡ true
-    → Bytes d → reading false d ≡ found ss → stated d + length w ≤ 3500 → length w ≡ size p → w ≡ write (size p) (layout (p .kind)) (p .fields)
+    → Bytes d → reading false d ≡ found ss → stated d + length w ≤ longest → length w ≡ size p → w ≡ write (size p) (layout (p .kind)) (p .fields)
     → andThen (reading false (grown d 0 w)) (λ ts. found (grown d 0 w))
     ≡ need (not (idAmong (sectionId (p .kind)) ss)) (fault 9 (stated d) (stated d))
     (tested (stated d) (located (partSlots (p .kind) w) (checks (external (idOf d)) (p .kind) (p .fields))) (found (grown d 0 w)))
@@ -177,14 +177,14 @@ unfolding sectionAdded appended placeFor andThen
 judged k fs d w s fit b form =
     let p : Part = record { kind = k; fields = fs } in
     let L : ℕ = stated d in
-    let room : Bool = leb (L + length w) 3500 && leb (L + length w) (length d) in
+    let room : Bool = leb (L + length w) longest && leb (L + length w) (length d) in
     let l : length w ≡ size p = ap length form ∙ size-any (layout k) (size p) 0 fs in
     let next : ℕ → Outcome (List ℕ) = λ n. tested n (located (partSlots k w) (checks (external (idOf d)) k fs)) (found (grown d 0 w)) in
     section-same k fs d w (size p) (s .section) fit form (sym l) b
     ∙ then-same (reading false d) _ _
     (λ ss e.
     same-need room room (fault 23 L L) _ _ refl
-    (λ q. judged-longer d ss p w s fit b e (leb-true (L + length w) 3500 (and-split (leb (L + length w) 3500) _ q .0)) l form
+    (λ q. judged-longer d ss p w s fit b e (leb-true (L + length w) longest (and-split (leb (L + length w) longest) _ q .0)) l form
     ∙ sym (need-then (not (idAmong (sectionId k) ss)) (fault 9 L L) (found L) next))
     ∙ sym (need-then room (fault 23 L L) _ next))
     ∙ sym (then-then (reading false d) _ next)

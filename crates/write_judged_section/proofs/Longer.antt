@@ -9,7 +9,7 @@ use lib.Seq.{length-take-le}
 use borrow.Author.Tests.{le-leb}
 use Rattle.format.specs.Bytes.{Bytes, bytesAt, allZero}
 use Rattle.format.specs.Parts.{external, knownId}
-use Rattle.format.specs.Rules.{Section}
+use Rattle.format.specs.Rules.{longest, Section}
 use Rattle.format.specs.Reading.{found, need, andThen, idOf, stated, section, headerChecks, reading}
 use Rattle.format.proofs.Finding.{and-join}
 use Rattle.format.proofs.Numbers.{bytes-take, bytes-drop}
@@ -41,7 +41,7 @@ header-kept (a₀ ∷ a₁ ∷ a₂ ∷ a₃ ∷ a₄ ∷ a₅ ∷ a₆ ∷ []) 
 header-kept (a₀ ∷ a₁ ∷ a₂ ∷ a₃ ∷ a₄ ∷ a₅ ∷ a₆ ∷ a₇ ∷ bs) y w n h = (refl, refl)
 
 -- The header of the longer draft passes its tests too.
-grown-header : (d w : List ℕ) → Hold (headerChecks false d) → stated d + length w ≤ 3500 → 8 ≤ stated d → stated d ≤ length d
+grown-header : (d w : List ℕ) → Hold (headerChecks false d) → stated d + length w ≤ longest → 8 ≤ stated d → stated d ≤ length d
     → length (grown d 0 w) ≡ stated d + length w → Hold (headerChecks false (grown d 0 w))
 grown-header d w h m least there long =
     let g : List ℕ = grown d 0 w in
@@ -61,7 +61,7 @@ grown-header d w h m least there long =
         (
           ap allZero version ∙ h .1 .1 .0,
           (
-            and-join _ _ (and-join _ _ (le-leb 8 (stated g) (omega arith)) (le-leb (stated g) 3500 (omega arith))) (le-leb (stated g) (length g) (omega arith)),
+            and-join _ _ (and-join _ _ (le-leb 8 (stated g) (omega arith)) (le-leb (stated g) longest (omega arith))) (le-leb (stated g) (length g) (omega arith)),
             (ap allZero reserved ∙ h .1 .1 .1 .1 .0, tt),
           ),
         ),
@@ -69,7 +69,7 @@ grown-header d w h m least there long =
     )
 
 -- The sections that were read are found again, and the one after them is read at their end.
-pub reading-after : (d w : List ℕ) (ss : List Section) → Bytes d → reading false d ≡ found ss → stated d + length w ≤ 3500 → 4 ≤ length w
+pub reading-after : (d w : List ℕ) (ss : List Section) → Bytes d → reading false d ≡ found ss → stated d + length w ≤ longest → 4 ≤ length w
     → stated w ≡ length w
     → reading false (grown d 0 w) ≡ andThen (section false (external (idOf d)) ss (stated d) w) (λ s. found (ss ++ s ∷ []))
 unfolding reading need

@@ -4,7 +4,7 @@ use mathlib.Core.Bool.{true, false, not}
 use mathlib.Core.List.{List}
 use Prim.Native.Nat.{ℕ, _+_, _≤_}
 use lib.ListN.{length}
-use Rattle.format.specs.Rules.{Section}
+use Rattle.format.specs.Rules.{longest, Section}
 use Rattle.format.specs.Reading.{found, fault, need, asAnswer, stated, reading, rowCount}
 use Rattle.format.specs.declared.Answer.the-variants.{Accepted, Refused}
 use Rattle.format.proofs.Tests.{need-passed, need-failed, then-found, then-refused}
@@ -26,20 +26,20 @@ no-place d i k ss e q b =
     ap (Refused 23) q ∙ sym (ap (asAnswer (λ (m : ℕ). m)) (then-found _ e ∙ need-failed (fitting d k) _ _ b))
 
 -- There is room: 9 where one stands before, else the place.
-roomy : (d : List ℕ) (i k : ℕ) (ss : List Section) → reading false d ≡ found ss → stated d + k ≤ 3500 → stated d + k ≤ length d
+roomy : (d : List ℕ) (i k : ℕ) (ss : List Section) → reading false d ≡ found ss → stated d + k ≤ longest → stated d + k ≤ length d
     → placeFor i k d ≡ need (not (idAmong i ss)) (fault 9 (stated d) (stated d)) (found (stated d))
 unfolding placeFor
 roomy d i k ss e h m =
     then-found _ e
     ∙ need-passed (fitting d k) _ _ (fits-in d k h m)
 
-pub stands-before : {l : ℕ} (d : List ℕ) (i k : ℕ) (ss : List Section) → reading false d ≡ found ss → l ≡ stated d → stated d + k ≤ 3500
+pub stands-before : {l : ℕ} (d : List ℕ) (i k : ℕ) (ss : List Section) → reading false d ≡ found ss → l ≡ stated d → stated d + k ≤ longest
     → stated d + k ≤ length d → true ≡ idAmong i ss → Refused 9 l ≡ asAnswer (λ m. m) (placeFor i k d)
 unfolding asAnswer
 stands-before d i k ss e q h m t =
     ap (Refused 9) q ∙ sym (ap (asAnswer (λ (m : ℕ). m)) (roomy d i k ss e h m ∙ need-failed _ _ _ (ap not (sym t))))
 
-pub place-after : {l : ℕ} (d : List ℕ) (i k : ℕ) (ss : List Section) → reading false d ≡ found ss → l ≡ stated d → stated d + k ≤ 3500
+pub place-after : {l : ℕ} (d : List ℕ) (i k : ℕ) (ss : List Section) → reading false d ≡ found ss → l ≡ stated d → stated d + k ≤ longest
     → stated d + k ≤ length d → false ≡ idAmong i ss → Accepted l ≡ asAnswer (λ m. m) (placeFor i k d)
 unfolding asAnswer
 place-after d i k ss e q h m t =

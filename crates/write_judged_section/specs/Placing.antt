@@ -6,7 +6,7 @@ use Prim.Native.Nat.{ℕ, _+_, _≤_, _<_}
 use lib.Dec.{eqb, leb}
 use lib.ListN.{length, drop}
 use Rattle.format.specs.Parts.{sectionId}
-use Rattle.format.specs.Rules.{Section}
+use Rattle.format.specs.Rules.{longest, Section}
 use Rattle.format.specs.Reading.{Outcome, found, fault, need, andThen, idOf, stated, reading}
 use Rattle.write_last_part.specs.Tiling.{TiledTo}
 
@@ -20,7 +20,7 @@ unfoldable pub placeFor : ℕ → ℕ → List ℕ → Outcome ℕ
 placeFor i n d =
     andThen (reading false d)
     (λ ss.
-    need (leb (stated d + n) 3500 && leb (stated d + n) (length d)) (fault 23 (stated d) (stated d))
+    need (leb (stated d + n) longest && leb (stated d + n) (length d)) (fault 23 (stated d) (stated d))
     (need (not (idAmong i ss)) (fault 9 (stated d) (stated d)) (found (stated d))))
 
 -- stepping from part to part by the lengths that they state, one comes from the front of the bytes to z, past no part with

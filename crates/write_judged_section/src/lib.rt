@@ -2,36 +2,38 @@
 ghost use mathlib.Core.Path.{_≡_};
 ghost use Prim.Native.Nat.{ℕ, _+_, _≤_};
 ghost use lib.ListN.{length, drop};
+ghost use Rattle.format.specs.Rules.{longest};
 ghost use Rattle.format.specs.Reading.{asAnswer};
 ghost use Rattle.write_last_part.specs.Tiling.{Tiled};
 ghost use Rattle.write_judged_section.specs.Placing.{PassedTo, StandsIn, placeFor};
 use format::Answer;
 use format::LONGEST;
+use format::RULE_FIELDS;
 use read_fields::two;
 use reading::draft::read_draft;
 
 // The end of the rules of 20 bytes that follow each other from the place p on. A long draft has many, and a step by a known
 // number need not wait for the bytes that state it.
 fn after_bare_rules(s: &[u8], p: usize) -> usize
-    requires { ⌜ (p ≤ length (now s)) × (length (now s) ≤ 3500) ⌝ }
-    ensures { λ r. ⌜ (p ≤ r) × (r ≤ length (now (s .entry))) × ((i : ℕ) → (18 ≡ i → ⊥) → PassedTo i (drop r (now (s .entry))) (drop p (now (s .entry)))) ⌝ }
+    requires { ⌜ (p ≤ length (now s)) × (length (now s) ≤ longest) ⌝ }
+    ensures { λ r. ⌜ (p ≤ r) × (r ≤ length (now (s .entry))) × ((i : ℕ) → (0x12 ≡ i → ⊥) → PassedTo i (drop r (now (s .entry))) (drop p (now (s .entry)))) ⌝ }
 {
     let mut q = p;
-    while q + 20 <= s.len() {
+    while q + RULE_FIELDS <= s.len() {
         if s[q] != 0x12 {
             return q;
         }
-        if two(s, q + 2) != 20 {
+        if two(s, q + 2) != RULE_FIELDS {
             return q;
         }
-        q += 20;
+        q += RULE_FIELDS;
     }
     q
 }
 
 // A section with the id, which is not that of a rule, stands among the sections of a draft.
 fn stands(s: &[u8], id: u8) -> bool
-    requires { ⌜ (8 ≤ length (now s)) × (length (now s) ≤ 3500) × Tiled (drop 8 (now s)) × (18 ≡ id → ⊥) ⌝ }
+    requires { ⌜ (8 ≤ length (now s)) × (length (now s) ≤ longest) × Tiled (drop 8 (now s)) × (0x12 ≡ id → ⊥) ⌝ }
     ensures { λ r. ⌜ StandsIn (drop 8 (now (s .entry))) id r ⌝ }
 {
     let mut p = after_bare_rules(s, 8);
@@ -47,7 +49,7 @@ fn stands(s: &[u8], id: u8) -> bool
 
 // The place after the draft of a section with the id and n bytes: the draft's own fault, 23, then 9.
 pub fn place_for(draft: &[u8], id: u8, n: usize) -> Answer
-    requires { ⌜ (18 ≡ id → ⊥) ⌝ }
+    requires { ⌜ (0x12 ≡ id → ⊥) ⌝ }
     ensures { λ r. ⌜ r ≡ asAnswer (λ l. l) (placeFor id n (now (draft .entry))) ⌝ }
 {
     let a = read_draft(draft);

@@ -69,8 +69,8 @@ place-more ts t g =
     omega arith
 
 -- A section id is a byte, and below the ids of tokens.
-pub id-small : (k : Kind) → sectionId k < 30
-id-small k = ltb-true (sectionId k) 30 (every-kind (λ j. ltb (sectionId j) 30) refl k)
+pub id-small : (k : Kind) → sectionId k < 0x1E
+id-small k = ltb-true (sectionId k) 0x1E (every-kind (λ j. ltb (sectionId j) 0x1E) refl k)
 
 -- A written section begins with its id.
 pub id-framed : (b : Bool) (i g t : ℕ) (l : List Item) (fs : Fields) (z : List ℕ) → b ≡ false → i < 256

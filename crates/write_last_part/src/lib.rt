@@ -2,6 +2,7 @@
 ghost use mathlib.Core.Bool.{false};
 ghost use Prim.Native.Nat.{_≤_};
 ghost use lib.ListN.{length};
+ghost use Rattle.format.specs.Rules.{longest};
 ghost use Rattle.write_last_part.specs.Tiling.{Twenties, LastOf, LastSection};
 use read_fields::two;
 use read_token::header::header;
@@ -17,7 +18,7 @@ pub enum Last {
 // The last of the parts of 20 bytes that follow each other from the place p on. Such are the rules without subsections, of
 // which a long draft has many: a step by a known number need not wait for the bytes that state it.
 fn last_twenty(s: &[u8], p: usize) -> usize
-    requires { ⌜ Twenties (now s) p p × (length (now s) ≤ 3500) ⌝ }
+    requires { ⌜ Twenties (now s) p p × (length (now s) ≤ longest) ⌝ }
     ensures { λ r. ⌜ Twenties (now (s .entry)) p r ⌝ }
 {
     let mut q = p;
@@ -32,7 +33,7 @@ fn last_twenty(s: &[u8], p: usize) -> usize
 
 // The last of the parts that follow each other from the place first to the end.
 pub fn last_part(s: &[u8], first: usize) -> Last
-    requires { ⌜ (first ≤ length (now s)) × (length (now s) ≤ 3500) ⌝ }
+    requires { ⌜ (first ≤ length (now s)) × (length (now s) ≤ longest) ⌝ }
     ensures { λ r. ⌜ LastOf (now (s .entry)) first r ⌝ }
 {
     let mut last = first;

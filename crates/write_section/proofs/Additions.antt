@@ -11,7 +11,7 @@ use borrow.Author.Tests.{eqb-true, ne-eqb}
 use Rattle.format.specs.Bytes.{All, Bytes}
 use Rattle.format.specs.Layout.{Fields, fits, write}
 use Rattle.format.specs.Parts.{Kind, sectionId, isSubsection, layout, Part, size, span, joins, external, knownId}
-use Rattle.format.specs.Rules.{Section}
+use Rattle.format.specs.Rules.{longest, Section}
 use Rattle.format.specs.Reading.{Fault, Outcome, refused, found, fault, need, andThen, idOf, stated, reading, partsOf}
 use Rattle.format.specs.Writer.{writeAnswer, draftAfter, longer, addition}
 use Rattle.format.specs.declared.Answer.{Answer}
@@ -76,11 +76,11 @@ made k fs w t e l =
 
 -- The same bytes after 23.
 same-appended : (d w g : List ℕ) (o n : ℕ) → length w ≡ n → grown d o w ≡ g
-    → need (leb (stated d + n) 3500 && leb (stated d + n) (length d)) (fault 23 (stated d) (stated d)) (andThen (reading false g) (λ ts. found g))
+    → need (leb (stated d + n) longest && leb (stated d + n) (length d)) (fault 23 (stated d) (stated d)) (andThen (reading false g) (λ ts. found g))
     ≡ appended d o w
 unfolding appended
 same-appended d w g o n l e =
-    ap₂ (λ (m : ℕ) (y : List ℕ). need (leb (stated d + m) 3500 && leb (stated d + m) (length d)) (fault 23 (stated d) (stated d)) (andThen (reading false y) (λ ts. found y))) (sym l) (sym e)
+    ap₂ (λ (m : ℕ) (y : List ℕ). need (leb (stated d + m) longest && leb (stated d + m) (length d)) (fault 23 (stated d) (stated d)) (andThen (reading false y) (λ ts. found y))) (sym l) (sym e)
 
 -- ---- a section
 
@@ -152,15 +152,15 @@ sub-grown d ts t p w b e s l m =
 abbrev Same25 : List ℕ → List ℕ → Part → List Section → Type 0
 Same25 d w p ss =
     need (joins 0 (partsOf ss ++ p ∷ [])) (fault 25 (stated d) (stated d))
-    (need (leb (stated d + size p) 3500 && leb (stated d + size p) (length d)) (fault 23 (stated d) (stated d))
+    (need (leb (stated d + size p) longest && leb (stated d + size p) (length d)) (fault 23 (stated d) (stated d))
     (andThen (reading false (longer d ss p)) (λ ts. found (longer d ss p))))
     ≡ need (eqb (idOf (drop (lastPlace 0 8 ss) d)) (sectionId (p .kind))) (fault 25 (stated d) (stated d)) (appended d (lastPlace 0 8 ss) w)
 
 -- A token's id is above every section's.
-pub id-known : (i : ℕ) → knownId i ≡ true → 30 ≤ i
+pub id-known : (i : ℕ) → knownId i ≡ true → 0x1E ≤ i
 id-known i k = go (eqb i 0x1E) refl
   where
-    go : (v : Bool) → eqb i 0x1E ≡ v → 30 ≤ i
+    go : (v : Bool) → eqb i 0x1E ≡ v → 0x1E ≤ i
     go true q = let x = eqb-true i 0x1E q in omega arith
     go false q = let x = eqb-true i 0x1F (sym (ap (λ (v : Bool). v || eqb i 0x1F) q) ∙ k) in omega arith
 
@@ -185,7 +185,7 @@ same-last d w p ts t b e s l m =
     let j = sub-joins-last false x ts t p (gs .1 .0) (flat-joins false x ss (r .good .each) 0) s in
     let there = stands-at d ts t [] b e .id-there in
     subst (λ (q : ℕ). need (joins 0 (partsOf ss ++ p ∷ [])) (fault 25 (stated d) (stated d))
-    (need (leb (stated d + size p) 3500 && leb (stated d + size p) (length d)) (fault 23 (stated d) (stated d))
+    (need (leb (stated d + size p) longest && leb (stated d + size p) (length d)) (fault 23 (stated d) (stated d))
     (andThen (reading false (longer d ss p)) (λ us. found (longer d ss p))))
     ≡ need (eqb (idOf (drop q d)) (sectionId (p .kind))) (fault 25 (stated d) (stated d)) (appended d q w))
     (sym o)

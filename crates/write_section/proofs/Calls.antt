@@ -8,7 +8,7 @@ use native.Mathlib.Omega.{arith}
 use lib.Dec.{leb}
 use lib.ListN.{length}
 use borrow.Author.Tests.{leb-true}
-use Rattle.format.specs.Rules.{Section}
+use Rattle.format.specs.Rules.{longest, Section}
 use Rattle.format.specs.Reading.{Fault, Outcome, refused, found, fault, need, andThen, asAnswer, stated, headerChecks, reading, rowCount}
 use Rattle.format.specs.Writer.{writeAnswer, draftAfter}
 use Rattle.format.specs.declared.Answer.{Answer}
@@ -121,23 +121,23 @@ own-first d (found bs) h = sym (then-found _ (h bs refl .1))
 
 -- What appending has passed: there is room, and the longer draft reads.
 pub appended-passed : (d : List ℕ) (o : ℕ) (w bs : List ℕ) → appended d o w ≡ found bs
-    → (stated d + length w ≤ 3500) × ((ts : List Section) × (reading false (grown d o w) ≡ found ts))
+    → (stated d + length w ≤ longest) × ((ts : List Section) × (reading false (grown d o w) ≡ found ts))
 unfolding appended
 appended-passed d o w bs e =
-    let n = needed (leb (stated d + length w) 3500 && leb (stated d + length w) (length d)) _ _ bs e in
+    let n = needed (leb (stated d + length w) longest && leb (stated d + length w) (length d)) _ _ bs e in
     let f = followed (reading false (grown d o w)) _ bs (n .1) in
-    (leb-true (stated d + length w) 3500 (and-split (leb (stated d + length w) 3500) (leb (stated d + length w) (length d)) (n .0) .0), (f .0, f .1))
+    (leb-true (stated d + length w) longest (and-split (leb (stated d + length w) longest) (leb (stated d + length w) (length d)) (n .0) .0), (f .0, f .1))
 
 -- A refusal of appending with any number but 23 is the longer draft's, at its place.
 pub appended-refused : {n p : ℕ} (d : List ℕ) (o : ℕ) (w : List ℕ) → Refused n p ≡ writeAnswer (appended d o w) → (n ≡ 23 → ⊥)
-    → (stated d + length w ≤ 3500) × ((f : Fault) × ((reading false (grown d o w) ≡ refused f) × (p ≡ f .place)))
+    → (stated d + length w ≤ longest) × ((f : Fault) × ((reading false (grown d o w) ≡ refused f) × (p ≡ f .place)))
 unfolding appended need andThen asAnswer
-appended-refused {n} {p} d o w a other = go (leb (stated d + length w) 3500) (leb (stated d + length w) (length d)) (reading false (grown d o w)) refl refl a
+appended-refused {n} {p} d o w a other = go (leb (stated d + length w) longest) (leb (stated d + length w) (length d)) (reading false (grown d o w)) refl refl a
   where
-    go : (u v : Bool) (r : Outcome (List Section)) → leb (stated d + length w) 3500 ≡ u → reading false (grown d o w) ≡ r
+    go : (u v : Bool) (r : Outcome (List Section)) → leb (stated d + length w) longest ≡ u → reading false (grown d o w) ≡ r
         → Refused n p ≡ writeAnswer (need (u && v) (fault 23 (stated d) (stated d)) (andThen r (λ ts. found (grown d o w))))
-        → (stated d + length w ≤ 3500) × ((f : Fault) × ((reading false (grown d o w) ≡ refused f) × (p ≡ f .place)))
-    go true true (refused f) e q y = (leb-true (stated d + length w) 3500 e, (f, (q, cc)))
+        → (stated d + length w ≤ longest) × ((f : Fault) × ((reading false (grown d o w) ≡ refused f) × (p ≡ f .place)))
+    go true true (refused f) e q y = (leb-true (stated d + length w) longest e, (f, (q, cc)))
     go true true (found ts) e q y = absurd (let z : _≡_ {A = ℕ} 0 1 = cc in omega arith)
     go true false r e q y = absurd (other cc)
     go false v r e q y = absurd (other cc)

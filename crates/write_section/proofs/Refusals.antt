@@ -11,7 +11,7 @@ use lib.ListN.{length, take, drop, replicate, length-replicate, length-append, l
 use lib.Seq.{take-at, take-all, drop-at, drop-append-le, length-take-le}
 use Rattle.format.specs.Bytes.{Bytes}
 use Rattle.format.specs.Parts.{external, writeParts}
-use Rattle.format.specs.Rules.{Section}
+use Rattle.format.specs.Rules.{longest, Section}
 use Rattle.format.specs.Reading.{Fault, fault, Outcome, refused, found, need, Test, tested, idOf, stated, headerChecks, section, reading}
 use Rattle.format.proofs.Tests.{Hold, tests-lead, then-found, then-refused}
 use Rattle.format.proofs.Grouping.{all-join, all-split}
@@ -154,7 +154,7 @@ pub record GrownParts (d w : List ℕ) : Type 0 where
   pub states : stated (grown d 0 w) ≡ stated d + length w
   pub body : drop 8 (take (stated (grown d 0 w)) (grown d 0 w)) ≡ drop 8 (take (stated d) d) ++ w
 
-pub grown-parts : (d w : List ℕ) → Hold (headerChecks false d) → stated d + length w ≤ 3500 → GrownParts d w
+pub grown-parts : (d w : List ℕ) → Hold (headerChecks false d) → stated d + length w ≤ longest → GrownParts d w
 grown-parts d w h m =
     let D : List ℕ = take (stated d) d in
     let n : ℕ = stated d + length w in
@@ -175,7 +175,7 @@ grown-parts d w h m =
     }
 
 -- Where the longer draft reads, or is refused at the draft's end or after it, the draft reads.
-pub front-read : (d w : List ℕ) → Bytes d → Bytes w → Hold (headerChecks false d) → stated d + length w ≤ 3500
+pub front-read : (d w : List ℕ) → Bytes d → Bytes w → Hold (headerChecks false d) → stated d + length w ≤ longest
     → Tiled (drop 8 (take (stated d) d)) → Late (stated d) (reading false (grown d 0 w)) → Reads d
 unfolding reading need
 front-read d w b c h m t l =

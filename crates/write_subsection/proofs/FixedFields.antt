@@ -17,11 +17,11 @@ use Rattle.format.proofs.PartForm.{part-read}
 use Rattle.format.proofs.Sound.{fixed-made}
 use Rattle.write_subsection.specs.LastSection.{holdsSubsections, fixedFields}
 
-pub fixed-rule : {i : ℕ} → i ≡ 18 → 20 ≡ fixedFields i
-fixed-rule {i} e = sym (is-true (eqb i 18) 20 10 (eq-eqb i 18 e))
+pub fixed-rule : {i : ℕ} → i ≡ 0x12 → 20 ≡ fixedFields i
+fixed-rule {i} e = sym (is-true (eqb i 0x12) 20 10 (eq-eqb i 0x12 e))
 
-pub fixed-other : {i : ℕ} → (i ≡ 18 → ⊥) → 10 ≡ fixedFields i
-fixed-other {i} e = sym (is-false (eqb i 18) 20 10 (ne-eqb i 18 e))
+pub fixed-other : {i : ℕ} → (i ≡ 0x12 → ⊥) → 10 ≡ fixedFields i
+fixed-other {i} e = sym (is-false (eqb i 0x12) 20 10 (ne-eqb i 0x12 e))
 
 -- They have 4 to 20 bytes.
 pub fixed-size : (i : ℕ) → (4 ≤ fixedFields i) × (fixedFields i ≤ 20)
@@ -48,9 +48,9 @@ head-fixed p i f fit e h =
     sym made ∙ fixed-made k r s ∙ eqb-true (least (layout k)) (fixedFields (sectionId k)) same ∙ ap fixedFields e
 
 -- Both ids are below those of tokens.
-pub holds-small : (i : ℕ) → holdsSubsections i ≡ true → i ≤ 20
+pub holds-small : (i : ℕ) → holdsSubsections i ≡ true → i ≤ 0x14
 holds-small i h = go (eqb i 0x12) refl
   where
-    go : (v : Bool) → eqb i 0x12 ≡ v → i ≤ 20
+    go : (v : Bool) → eqb i 0x12 ≡ v → i ≤ 0x14
     go true q = let x = eqb-true i 0x12 q in omega arith
     go false q = let x = eqb-true i 0x14 (sym (ap (λ (v : Bool). v || eqb i 0x14) q) ∙ h) in omega arith

@@ -8,7 +8,7 @@ use lib.ListN.{length, take, drop, take-append-drop}
 use lib.Seq.{take-all, drop-append-le, length-take-le}
 use Rattle.format.specs.Bytes.{All, Bytes}
 use Rattle.format.specs.Parts.{Part, Choice, writeParts, written, external}
-use Rattle.format.specs.Rules.{Section, sectionsOf}
+use Rattle.format.specs.Rules.{longest, Section, sectionsOf}
 use Rattle.format.specs.Legal.{Lawful}
 use Rattle.format.specs.Reading.{found, idOf, stated, headerChecks, reading, partsOf}
 use Rattle.format.proofs.Numbers.{bytes-take}
@@ -55,7 +55,7 @@ pub record LongerRead (i : ℕ) (r : List ℕ) (ts : List Section) : Type 0 wher
   pub choice : Choice i (partsOf ts)
   pub lawful : Lawful i (partsOf ts)
 
-pub longer-read : (i n : ℕ) (g a y : List ℕ) (ts : List Section) → g ≡ restate 0 n a ++ y → 8 ≤ length a → idOf a ≡ i → length g ≡ n → n ≤ 3500 → Bytes g
+pub longer-read : (i n : ℕ) (g a y : List ℕ) (ts : List Section) → g ≡ restate 0 n a ++ y → 8 ≤ length a → idOf a ≡ i → length g ≡ n → n ≤ longest → Bytes g
     → reading false g ≡ found ts → LongerRead i (drop 8 a ++ y) ts
 longer-read i n g a y ts form h q l m b e =
     let id : idOf g ≡ i = ap idOf form ∙ restate-id n a y (omega arith) ∙ q in

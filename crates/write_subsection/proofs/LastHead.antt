@@ -13,7 +13,7 @@ use lib.Seq.{take-all, take-append-le, drop-append-le, length-take-le}
 use borrow.Author.Tests.{le-leb, eqb-true}
 use Rattle.format.specs.Bytes.{Bytes, number, bytesAt, allZero}
 use Rattle.format.specs.Parts.{Kind, rule, information, layout, sameKind, Part, external}
-use Rattle.format.specs.Rules.{check, checks, Section}
+use Rattle.format.specs.Rules.{longest, check, checks, Section}
 use Rattle.format.specs.Reading.{Fault, Outcome, refused, found, andThen, idOf, stated, sectionKind, partIn, partSlots, Test, located, kindBefore, ruleBefore, fieldChecks, holdsSubs, sectionChecks, sectionRest, section, headerChecks, reading}
 use Rattle.format.specs.Writer.{writeAnswer, draftAfter}
 use Rattle.format.specs.Layout.{Fields}
@@ -211,13 +211,13 @@ holder x ss i m z w hs id l e = go (eqb i 0x12) refl
         (ap sectionKind (id ∙ n), head-inner x rule (kindBefore rule ss) (ruleBefore (partIn rule (restate 0 m z ++ w)) ss) (restate 0 m z ++ w) (fixedFields i) refl k, rule-head x (kindBefore rule ss) ss m z w (omega arith) e)
     go false q =
         let n = eqb-true i 0x14 (sym (ap (λ (v : Bool). v || eqb i 0x14) q) ∙ hs) in
-        let k : 10 ≡ fixedFields i = fixed-other (λ (y : i ≡ 18). omega arith) in
+        let k : 10 ≡ fixedFields i = fixed-other (λ (y : i ≡ 0x12). omega arith) in
         (ap sectionKind (id ∙ n), head-inner x information (kindBefore information ss) (ruleBefore (partIn information (restate 0 m z ++ w)) ss) (restate 0 m z ++ w) (fixedFields i) refl k, information-head x (kindBefore information ss) ss m z w (omega arith) e)
 
 -- ---- the draft
 
 -- What is left of the draft's reading is its last section, read alone.
-last-left : (d w : List ℕ) (o i : ℕ) (f : Fault) → Bytes d → Bytes w → Hold (headerChecks false d) → stated d + length w ≤ 3500
+last-left : (d w : List ℕ) (o i : ℕ) (f : Fault) → Bytes d → Bytes w → Hold (headerChecks false d) → stated d + length w ≤ longest
     → LastAt (take (stated d) d) 8 o → idOf (drop o d) ≡ i → holdsSubsections i ≡ true → o + fixedFields i ≤ stated d
     → reading false (grown d o w) ≡ refused f → o + fixedFields i ≤ f .place
     → (ss : List Section) × (reading false d ≡ andThen (moved (o - 8) (sectionsFrom false (external (idOf d)) [] 8 (drop o (take (stated d) d)))) (λ ts. found (ss ++ ts)))
@@ -294,7 +294,7 @@ module _ (d w : List ℕ) (o first : ℕ) (b : Bytes d) (c : Bytes w) (l : LastO
 
   -- Its last section is there to be read.
   pub last-asked : {number at n : ℕ} {new : List ℕ} → Refused number at ≡ writeAnswer (appended d o w) → n ≡ stated d → new ≡ draftAfter (appended d o w) d
-      → (8 ≤ o) × (o ≤ length (take n new)) × (length (take n new) ≤ 3500)
+      → (8 ≤ o) × (o ≤ length (take n new)) × (length (take n new) ≤ longest)
   last-asked a en s =
       let k = lengths false d (l .header) in
       let ld = length-take-le (stated d) d (k .within) in

@@ -11,7 +11,7 @@ use lib.Seq.{take-at, drop-at, take-append-le, drop-append-le, drop-drop, length
 use Rattle.format.specs.Bytes.{All, Bytes}
 use Rattle.format.specs.Layout.{write}
 use Rattle.format.specs.Parts.{Kind, sectionId, isSubsection, layout, Part, size, span, writeParts, Choice, external}
-use Rattle.format.specs.Rules.{Section}
+use Rattle.format.specs.Rules.{longest, Section}
 use Rattle.format.specs.Reading.{found, idOf, stated, headerChecks, reading, partsOf}
 use Rattle.format.specs.Legal.{Lawful}
 use Rattle.format.specs.Slots.{least}
@@ -197,7 +197,7 @@ last-bytes d o within la =
       four = omega arith;
     }
 
-pub sub-front : (d w : List ℕ) (ts : List Section) (o i : ℕ) → Bytes d → Bytes w → Hold (headerChecks false d) → stated d + length w ≤ 3500
+pub sub-front : (d w : List ℕ) (ts : List Section) (o i : ℕ) → Bytes d → Bytes w → Hold (headerChecks false d) → stated d + length w ≤ longest
     → LastAt (take (stated d) d) 8 o → idOf (drop o d) ≡ i → holdsSubsections i ≡ true → o + fixedFields i ≤ stated d
     → Tiled (drop (o + fixedFields i) (take (stated d) d)) → reading false (grown d o w) ≡ found ts → Reads d
 sub-front d w ts o i b c h most la id hs fx u e =

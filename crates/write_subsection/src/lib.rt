@@ -7,6 +7,7 @@ ghost use Prim.Native.Nat.{_+_, _-_, _≤_};
 ghost use lib.ListN.{length, take, drop};
 ghost use Rattle.format.specs.Bytes.{Bytes};
 ghost use Rattle.format.specs.Parts.{external};
+ghost use Rattle.format.specs.Rules.{longest};
 ghost use Rattle.format.specs.Reading.{asAnswer, idOf, stated, headerChecks, rowCount};
 ghost use Rattle.format.proofs.Turns.{sectionsFrom};
 ghost use Rattle.format.proofs.Tests.{Hold};
@@ -16,6 +17,8 @@ ghost use Rattle.write_appended_part.specs.Appended.{appended};
 ghost use Rattle.write_section.specs.Adding.{ownFirst, subsectionAdded};
 ghost use Rattle.write_subsection.specs.LastSection.{holdsSubsections, fixedFields, LastOpen, moved};
 use format::Answer;
+use format::INFORMATION_FIELDS;
+use format::RULE_FIELDS;
 use read_fields::two;
 use read_token::whole::sections_of;
 use reading::draft::read_draft;
@@ -30,15 +33,15 @@ fn fixed_fields(id: u8) -> usize
     ensures { λ r. ⌜ r ≡ fixedFields id ⌝ }
 {
     if id == 0x12 {
-        return 20;
+        return RULE_FIELDS;
     }
-    10
+    INFORMATION_FIELDS
 }
 
 // The answer of the section of s at a place, the last one, read by itself as the first section of a draft: eight bytes before
 // it stand for the header, and a refusal's place is moved to where the section stands.
 fn last_alone(s: &[u8], place: usize) -> Answer
-    requires { ⌜ (8 ≤ place) × (place ≤ length (now s)) × (length (now s) ≤ 3500) ⌝ }
+    requires { ⌜ (8 ≤ place) × (place ≤ length (now s)) × (length (now s) ≤ longest) ⌝ }
     ensures { λ r. ⌜ r ≡ asAnswer rowCount (moved (place - 8) (sectionsFrom false (external (idOf (now (s .entry)))) [] 8 (drop place (now (s .entry))))) ⌝ }
 {
     let front = place - 8;

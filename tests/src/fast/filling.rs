@@ -1,6 +1,6 @@
 //! The pass that fills the table.
 
-use crate::reader::COLUMNS;
+use super::COLUMNS;
 use std::slice::IterMut;
 
 /// How a rule without subsections begins: its id, its version, its 20 bytes.

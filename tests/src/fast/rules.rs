@@ -3,16 +3,19 @@
 use super::signs::{is_label_template, is_rule_id, wrong_in_label, wrong_in_rule_id};
 use super::{refuse, subsection_frame, Judged, Progress, LENGTH};
 
+/// Slots for Rule IDs; the longest token holds 174 rules at most.
+const SLOTS: usize = 512;
+
 /// Rule IDs met so far as big-endian numbers, by open addressing. No Rule ID
-/// is 0, so 0 marks a free slot; 3,500 bytes hold 174 rules at most.
+/// is 0, so 0 marks a free slot.
 pub struct RuleIds {
-    slots: [u64; 512],
+    slots: [u64; SLOTS],
 }
 
 impl RuleIds {
     #[inline]
     pub fn new() -> RuleIds {
-        RuleIds { slots: [0; 512] }
+        RuleIds { slots: [0; SLOTS] }
     }
 
     /// Adds an ID; false if it was there.
@@ -26,7 +29,7 @@ impl RuleIds {
                     return true;
                 }
                 met if met == rule_id => return false,
-                _ => slot = (slot + 1) % 512,
+                _ => slot = (slot + 1) % SLOTS,
             }
         }
     }
@@ -109,9 +112,9 @@ fn rule_subsections<const ALL: bool>(
         let (tag, length) = subsection_frame(rest, place, &LEAST, &mut met)?;
         let (subsection, after) = rest.split_at(length);
         match tag {
-            1 => transport_variant(subsection, place)?,
-            3 => minimum = export_parameters(subsection, place)?,
-            5 => {
+            0x0001 => transport_variant(subsection, place)?,
+            0x0003 => minimum = export_parameters(subsection, place)?,
+            0x0005 => {
                 mask = token_parameters(subsection, place)?;
                 mask_place = place;
             }

@@ -72,14 +72,14 @@ pub fn information<const ALL: bool>(
         let (tag, length) = subsection_frame(rest, place, &LEAST, &mut met)?;
         let (subsection, after) = rest.split_at(length);
         match tag {
-            1 => protection(subsection, place, progress.external)?,
+            0x0001 => protection(subsection, place, progress.external)?,
             _ => dates(subsection, place)?,
         }
         progress.rows += 1;
         rest = after;
         place += length;
     }
-    if ALL && met & (1 << 1) == 0 {
+    if ALL && met & (1 << 0x0001) == 0 {
         return refuse(20, section_place);
     }
     Ok(())

@@ -1,8 +1,8 @@
 //! An optimised writer. An addition reads twice: the draft, then the longer
 //! draft, which is made in place and undone where it is refused.
 
-use super::{fast_read, judge, two, DRAFT};
-use crate::kinds::{owner_of, LONGEST};
+use super::{fast_read, judge, two, DRAFT, LONGEST};
+use crate::kinds::owner_of;
 use crate::parts::Part;
 use crate::reader::Answer;
 

@@ -5,7 +5,7 @@ use crate::fast::{fast_fill, fast_read};
 use crate::kinds::LONGEST;
 use crate::library;
 use crate::library_writer;
-use crate::reader::{put_rows, read, Answer, Row, COLUMNS, TABLE};
+use crate::reader::{put_rows, read, Answer, Row, COLUMNS, ROWS, TABLE};
 use crate::views::{fields_of, row_among, step_among, taken_apart, Step};
 
 /// What a table holds before a call.
@@ -46,7 +46,7 @@ fn expected(outcome: &Result<Vec<Row>, Answer>, length: usize) -> Answer {
     }
 }
 
-/// Tables of no numbers, one too few, exactly enough, and 1,500.
+/// Tables of no numbers, one too few, exactly enough, and [`TABLE`].
 fn compare_tables(token: &[u8], outcome: &Result<Vec<Row>, Answer>) {
     let enough = COLUMNS * outcome.as_ref().map_or(2, Vec::len);
     for length in [0, enough - 1, enough, TABLE] {
@@ -149,7 +149,7 @@ fn compare_views(token: &[u8], rows: &[Row]) {
 }
 
 fn compare_refused_views(token: &[u8], refusal: Answer) {
-    for (row, field) in [(0, 0), (1, 3), (300, 0), (u32::MAX, u32::MAX)] {
+    for (row, field) in [(0, 0), (1, 3), (ROWS as u32, 0), (u32::MAX, u32::MAX)] {
         let given = library::view(token, row, field);
         assert_eq!(given, Err(refusal), "row {row} field {field}");
     }

@@ -4,7 +4,7 @@ use super::damage::damaged;
 use super::form_faults::{bad_label, bad_rule_id};
 use super::legal::{self, legal};
 use super::values;
-use crate::kinds::{EXTERNAL, INTERNAL};
+use crate::kinds::{EXTERNAL, INTERNAL, LONGEST, SHORTEST};
 use crate::parts::{written, Part};
 use crate::random::Random;
 
@@ -37,7 +37,18 @@ pub fn sequence(random: &mut Random) -> Sequence {
 fn buffer_size(random: &mut Random) -> usize {
     match random.below(6) {
         0 => random.below(12),
-        1 => random.pick(&[8, 18, 79, 80, 96, 100, 3499, 3500, 3501, 4000]),
+        1 => random.pick(&[
+            8,
+            18,
+            SHORTEST - 1,
+            SHORTEST,
+            96,
+            100,
+            LONGEST - 1,
+            LONGEST,
+            LONGEST + 1,
+            4000,
+        ]),
         2 => random.below(600),
         _ => random.between(500, 4200),
     }
@@ -60,7 +71,7 @@ fn rebuilding(random: &mut Random) -> Sequence {
         }
     };
     let length = token.bytes.len();
-    let size = random.pick(&[length, length + 1, length - 1, 3500, 4000]);
+    let size = random.pick(&[length, length + 1, length - 1, LONGEST, 4000]);
     let mut calls = vec![Call::Start { id: token.id }];
     calls.extend(token.parts.into_iter().map(Call::Add));
     calls.push(Call::Finish);
@@ -110,7 +121,7 @@ fn add_calls(random: &mut Random, calls: &mut Vec<Call>) {
         match random.below(16) {
             0 => calls.push(Call::Finish),
             1 => {
-                let places = random.pick(&[120, 120, 3500]);
+                let places = random.pick(&[120, 120, LONGEST]);
                 calls.push(Call::SetByte {
                     place: random.below(places),
                     value: random.byte(),

@@ -154,12 +154,12 @@ fn section_id(cut: &mut CutToken, random: &mut Random) -> Option<Expected> {
 fn tag(cut: &mut CutToken, random: &mut Random) -> Option<Expected> {
     let index = any_subsection(cut, random)?;
     let known = if cut.pieces[index].kind / 0x1_0000 == 0x12 {
-        5
+        0x0005
     } else {
-        2
+        0x0002
     };
     let tag = match random.below(4) {
-        0 => 0,
+        0 => 0x0000,
         1 => known + 1,
         2 => random.between(known + 1, 0xFFFF),
         _ => 0x0100,

@@ -4,11 +4,12 @@ use super::cut::{At, CutToken, Expected, Piece};
 use super::faults::{any_section, any_subsection, at_header, at_length, at_piece};
 use crate::kinds::{
     least_length, APPLICATION_DATA, DATES, EXPORT_PARAMETERS, INFORMATION, LONGEST, NAME,
-    PROTECTION, PUBLIC_KEY, RULE, SOURCE_RULE, TOKEN_PARAMETERS, TRANSPORT_RULE, TRANSPORT_VARIANT,
+    PROTECTION, PUBLIC_KEY, RULE, SHORTEST, SOURCE_RULE, TOKEN_PARAMETERS, TRANSPORT_RULE,
+    TRANSPORT_VARIANT,
 };
 use crate::random::Random;
 
-/// Application data that makes the token longer than 3,500 bytes.
+/// Application data that makes the token too long.
 pub fn over_long(cut: &mut CutToken, random: &mut Random) -> Option<Expected> {
     let index = match cut.any_of(random, &[APPLICATION_DATA]) {
         Some(index) => index,
@@ -172,7 +173,7 @@ pub fn header_length(cut: &mut CutToken, random: &mut Random) -> Option<Expected
     let length = match random.below(5) {
         0 => right + 1,
         1 => right - 1,
-        2 => random.pick(&[0, 7, 8, 80, 3500, 3501, 65535]),
+        2 => random.pick(&[0, 7, 8, SHORTEST, LONGEST, LONGEST + 1, 65535]),
         3 => right ^ (1 << random.below(16)),
         _ => random.below(65536),
     };

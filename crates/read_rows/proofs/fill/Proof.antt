@@ -5,6 +5,7 @@ use Prim.Native.Nat.{ℕ, _+_, _-_, _*_, _<_, _≤_}
 use native.Mathlib.Omega.{arith}
 use lib.ListN.{length, getD}
 use lib.Seq.{sets}
+use Rattle.format.specs.Rules.{longest}
 use Rattle.read_rows.specs.Filling.{Filling, standing, Sections, InSection}
 use Rattle.read_rows.proofs.Places.{four, id-below}
 use Rattle.read_rows.proofs.Steps.{Next, next, start, end, section-on, bare-rule, bare-on}
@@ -28,7 +29,7 @@ turn c = next (c .before .loop .inv .filling) (c .loop-test .taken)
 
 -- what of it is in the token, the counts before it, and the room for its row
 inside : (c : tie.In-loop Inv-loop μ-loop) → let a = c .before .before .before .before .args in let l = c .before .loop in
-    (l .p + 4 ≤ length (a .s .now)) × (length (a .s .now) ≤ 3500) × (l .n ≤ l .p) × (l .rules ≤ l .n) × (5 * l .n + 5 ≤ length (l .table))
+    (l .p + 4 ≤ length (a .s .now)) × (length (a .s .now) ≤ longest) × (l .n ≤ l .p) × (l .rules ≤ l .n) × (5 * l .n + 5 ≤ length (l .table))
     × (getD (a .s .now) (l .p) 0 < 256)
 inside c =
     let w = turn c in
@@ -56,7 +57,10 @@ cast-put-row : tie.Need-cast-put-row Inv-loop μ-loop
 cast-put-row c = omega (arith, inside (c .before .before .before .before .before .before))
 
 cast-put-row-2 : tie.Need-cast-put-row-2 Inv-loop μ-loop
-cast-put-row-2 c = omega (arith, inside (c .before .before .before .before .before .before))
+cast-put-row-2 c = omega arith
+
+cast-put-row-3 : tie.Need-cast-put-row-3 Inv-loop μ-loop
+cast-put-row-3 c = omega (arith, inside (c .before .before .before .before .before .before))
 
 put-row-requires : tie.Need-put-row-requires Inv-loop μ-loop
 put-row-requires c κs = inside (c .before .before .before .before .before .before) .4
@@ -98,14 +102,14 @@ mul-kind c = omega (arith, inside (c .before .before .before .before .before))
 rule-in-requires : tie.Need-rule-in-requires Inv-loop μ-loop
 rule-in-requires c κs = tt
 
-cast-put-row-3 : tie.Need-cast-put-row-3 Inv-loop μ-loop
-cast-put-row-3 c = omega (arith, inside (c .before .before .before .before .before .before .before))
-
 cast-put-row-4 : tie.Need-cast-put-row-4 Inv-loop μ-loop
-cast-put-row-4 c = omega (arith, c .before .before .before .before .before .two .ensures .1)
+cast-put-row-4 c = omega (arith, inside (c .before .before .before .before .before .before .before))
 
 cast-put-row-5 : tie.Need-cast-put-row-5 Inv-loop μ-loop
-cast-put-row-5 c = omega (arith, inside (c .before .before .before .before .before .before .before))
+cast-put-row-5 c = omega (arith, c .before .before .before .before .before .two .ensures .1)
+
+cast-put-row-6 : tie.Need-cast-put-row-6 Inv-loop μ-loop
+cast-put-row-6 c = omega (arith, inside (c .before .before .before .before .before .before .before))
 
 put-row-requires-2 : tie.Need-put-row-requires-2 Inv-loop μ-loop
 put-row-requires-2 c κs = inside (c .before .before .before .before .before .before .before) .4
@@ -185,6 +189,7 @@ fill-spec =
     is-bare-rule-requires
     cast-put-row
     cast-put-row-2
+    cast-put-row-3
     put-row-requires
     add-n
     add-p
@@ -193,9 +198,9 @@ fill-spec =
     cast-kind
     mul-kind
     rule-in-requires
-    cast-put-row-3
     cast-put-row-4
     cast-put-row-5
+    cast-put-row-6
     put-row-requires-2
     own-length-requires
     add-first

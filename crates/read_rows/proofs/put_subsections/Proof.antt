@@ -5,6 +5,7 @@ use Prim.Native.Nat.{ℕ, _+_, _-_, _*_, _<_, _≤_}
 use native.Mathlib.Omega.{arith}
 use lib.ListN.{length}
 use lib.Seq.{sets}
+use Rattle.format.specs.Rules.{longest}
 use Rattle.read_rows.specs.Filling.{InSection, Subsections}
 use Rattle.read_rows.proofs.Steps.{sub-inside, sub-turn, subs-end}
 use Rattle.read_rows.proofs.put_subsections.Statement.{statement}
@@ -24,7 +25,7 @@ loop-holds c = (c .before .before .pre, (λ t₀ rules i w. w), refl)
 
 -- What of the subsection at q is in the token, and the numbers.
 inside : (c : tie.In-loop Inv-loop μ-loop) → let a = c .before .before .before .before .args in let l = c .before .loop in
-    (l .q + 4 ≤ length (a .s .now)) × (length (a .s .now) ≤ 3500) × (l .row ≤ l .q) × (a .kind < 16777216) × (5 * l .row + 5 ≤ length (l .table))
+    (l .q + 4 ≤ length (a .s .now)) × (length (a .s .now) ≤ longest) × (l .row ≤ l .q) × (a .kind < 16777216) × (5 * l .row + 5 ≤ length (l .table))
 inside c = sub-inside (c .before .loop .inv .0 .within) (c .loop-test .taken)
 
 add-two : tie.Need-add-two Inv-loop μ-loop

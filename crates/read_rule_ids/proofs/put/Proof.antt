@@ -3,7 +3,7 @@ use mathlib.Core.Path.{_≡_, refl}
 use Prim.Native.Nat.{_-_, _<_}
 use native.Mathlib.Omega.{arith}
 use borrow.Author.Needs.{needs}
-use Rattle.read_rule_ids.specs.Keys.{Room}
+use Rattle.read_rule_ids.specs.Keys.{idPlaces, Room}
 use Rattle.read_rule_ids.proofs.Laws.{Looked, start, step, fresh-at, seen-at}
 use Rattle.read_rule_ids.proofs.put.Statement.{statement}
 use Rattle.read_rule_ids.proofs.put.Tie as tie
@@ -12,7 +12,7 @@ abbrev Inv-loop : tie.InvT-loop
 Inv-loop ids₀ k i₀ ids i = (0 < k) × (Room ids × (Looked ids k i × (ids ≡ ids₀)))
 
 abbrev μ-loop : tie.MeasureT-loop
-μ-loop ids₀ k i₀ ids i = 704 - i
+μ-loop ids₀ k i₀ ids i = idPlaces - i
 
 hash-requires : tie.Need-hash-requires Inv-loop μ-loop
 hash-requires c κs = search needs

@@ -15,7 +15,7 @@ use Rattle.write_judged_section.proofs.after_bare_rules.Lts as lts
 use Rattle.read_fields.proofs.two.Reads as two-reads
 
 abbrev Inv-loop : tie.InvT-loop
-Inv-loop s p q₀ q = (p ≤ q) × (q ≤ length s) × ((i : ℕ) → (18 ≡ i → ⊥) → PassedTo i (drop q s) (drop p s))
+Inv-loop s p q₀ q = (p ≤ q) × (q ≤ length s) × ((i : ℕ) → (0x12 ≡ i → ⊥) → PassedTo i (drop q s) (drop p s))
 
 abbrev μ-loop : tie.MeasureT-loop
 μ-loop s p q₀ q = length s - q
@@ -74,7 +74,7 @@ loop-again c =
     let h = c .before .before .before .before .loop-test .taken in
     let a = v .0 in
     let n : c .before .two .result ≡ stated (drop q s) = c .before .two .ensures .0 ∙ stated-at s q in
-    let id : idOf (drop q s) ≡ 18 = id-at s q (omega arith) ∙ c .before .before .if1 .left in
+    let id : idOf (drop q s) ≡ 0x12 = id-at s q (omega arith) ∙ c .before .before .if1 .left in
     (omega arith, omega arith, λ i k. passed-part s q (v .2 i k) (λ e. k (sym id ∙ e)) (sym (c .if2 .left) ∙ n) (omega arith) (omega arith))
 
 -- src/lib.rt:14:1

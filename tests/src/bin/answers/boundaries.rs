@@ -2,6 +2,7 @@
 //! in one part and in two, cuts and tails.
 
 use crate::cases::{draft_answer, Cases};
+use crate::kinds::SHORTEST;
 use crate::reader::{read, read_answer, read_draft, Answer};
 use crate::samples::{in_line, information, protection, smallest_token, token_of};
 use crate::tokens::{cut, every, full, inside, long, small_drafts};
@@ -130,7 +131,7 @@ fn drafts(cases: &mut Cases) {
     roomy.extend([0xEE; 3]);
     for draft in [roomy, cut(&every(), 14)] {
         for (at, value) in worth_asking(&draft, draft_answer) {
-            if at < 8 || draft.len() > 80 {
+            if at < 8 || draft.len() > SHORTEST {
                 cases.draft(&with(&draft, at, value));
             }
         }
@@ -138,7 +139,7 @@ fn drafts(cases: &mut Cases) {
             cases.finish(&with(&draft, at, value));
         }
     }
-    for length in [0, 1, 7, 8, 9, 12, 17, 18, 22, 79] {
+    for length in [0, 1, 7, 8, 9, 12, 17, 18, 22, SHORTEST - 1] {
         cases.draft(&smallest_token()[..length]);
         cases.finish(&smallest_token()[..length]);
         cases.draft(&cut(&every(), length.max(8)));
@@ -251,8 +252,8 @@ fn tails(cases: &mut Cases) {
         [0x16, 1, 0, 2],
         [0x14, 1, 0, 2],
         [0x15, 0, 0, 3],
-        [0, 9, 0, 3],
-        [0, 1, 0, 2],
+        [0x00, 0x09, 0, 3],
+        [0x00, 0x01, 0, 2],
     ] {
         for length in 1..=4 {
             let rest = &bytes[..length];

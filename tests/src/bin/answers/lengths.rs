@@ -2,6 +2,7 @@
 //! parts that do not fit each other.
 
 use crate::cases::Cases;
+use crate::kinds::SHORTEST;
 use crate::samples::{
     application_data, dates, export_parameters, export_rule, in_line, information, name,
     protection, public_key, rule, section, smallest_token, smallest_with, subsection, token_of,
@@ -143,10 +144,10 @@ fn inner_lengths(cases: &mut Cases) {
     let day = [7, 0xD0, 2, 29];
     for part in [
         variant(1),
-        subsection(2, &[&[0], RULE_ID]),
+        subsection(0x0002, &[&[0], RULE_ID]),
         export(8, 8, 8, 8),
         export(8, 8, 0, 0),
-        subsection(4, &[&[0], RULE_ID]),
+        subsection(0x0004, &[&[0], RULE_ID]),
         limits(8, &spaced(b"A", 64)),
         limits(0, &[]),
     ] {
@@ -201,7 +202,7 @@ fn repeated_rules(cases: &mut Cases) {
     cases.draft(&token_of(&[a.clone(), name(), b.clone(), b]));
     let others = [
         section(0x12, &[b"ABCDEFGH", &[0, 0, 0, 0, 9, 0, 0, 0]]),
-        rule(b"ABCDEFGH", &[vec![0, 9, 0, 4]]),
+        rule(b"ABCDEFGH", &[vec![0x00, 0x09, 0, 4]]),
         export_rule(b"ABCDEFGH", 0, &[]),
     ];
     for other in others {
@@ -210,7 +211,7 @@ fn repeated_rules(cases: &mut Cases) {
 }
 
 fn repeated_tags(cases: &mut Cases) {
-    let other = subsection(4, &[&[0], b"B       "]);
+    let other = subsection(0x0004, &[&[0], b"B       "]);
     for part in rule_parts() {
         let mut wrong = part.clone();
         wrong[4] = 1;
@@ -232,19 +233,21 @@ fn repeated_tags(cases: &mut Cases) {
 fn rule_parts() -> [Vec<u8>; 5] {
     [
         variant(1),
-        subsection(2, &[&[0], RULE_ID]),
+        subsection(0x0002, &[&[0], RULE_ID]),
         export(8, 8, 0, 0),
-        subsection(4, &[&[0], RULE_ID]),
+        subsection(0x0004, &[&[0], RULE_ID]),
         limits(0, &[]),
     ]
 }
 
 /// Ids and tags beside the known ones, with lengths that would do.
 fn unknown(cases: &mut Cases) {
-    for id in [0, 0x10, 0x16, 0x1E, 0xFF] {
+    for id in [0x00, 0x10, 0x16, 0x1E, 0xFF] {
         cases.draft(&token_of(&[section(id, &[&[0; 70]])]));
     }
-    for tag in [0, 3, 4, 5, 6, 0x101, 0x100, 0x1001, 0xFFFF] {
+    for tag in [
+        0x0000, 0x0003, 0x0004, 0x0005, 0x0006, 0x0101, 0x0100, 0x1001, 0xFFFF,
+    ] {
         cases.draft(&with_rule(&[subsection(tag, &[&[0; 9]])]));
         cases.draft(&token_of(&[information(&[
             protection(),
@@ -267,7 +270,7 @@ fn mask_against_minimum(cases: &mut Cases) {
             cases.draft(&with_rule(&[
                 variant(3),
                 b.clone(),
-                subsection(2, &[&[0], RULE_ID]),
+                subsection(0x0002, &[&[0], RULE_ID]),
                 a.clone(),
             ]));
             cases.draft(&token_of(&[rule(RULE_ID, &[a]), rule(b"B       ", &[b])]));
@@ -277,7 +280,7 @@ fn mask_against_minimum(cases: &mut Cases) {
     cases.draft(&token_of(&[rule(RULE_ID, &bad), name(), name()]));
     cases.draft(&token_of(&[rule(
         RULE_ID,
-        &[&bad[..], &[vec![0, 9, 0, 4]]].concat(),
+        &[&bad[..], &[vec![0x00, 0x09, 0, 4]]].concat(),
     )]));
     cases.draft(&token_of(&[
         export_rule(RULE_ID, 0, &bad),
@@ -332,5 +335,5 @@ fn whole_lengths(cases: &mut Cases) {
     let mut wrong = smallest_with(&[application_data(3415)]);
     wrong[4] = 1;
     cases.read(&wrong);
-    cases.read(&in_line(smallest_token()[..79].to_vec()));
+    cases.read(&in_line(smallest_token()[..SHORTEST - 1].to_vec()));
 }

@@ -1,8 +1,8 @@
 //! Table, views, walk and listing.
 
 use crate::cases::{hex, part_words, row_word, Cases};
-use crate::kinds;
-use crate::reader::{read, Answer, Row, COLUMNS};
+use crate::kinds::{self, LONGEST, SHORTEST};
+use crate::reader::{read, Answer, Row, COLUMNS, ROWS};
 use crate::samples::{in_line, smallest_token};
 use crate::tokens::{bases, every, key_between_rules, name_between_rules, small_drafts};
 use crate::views::{fields_of, taken_apart, view};
@@ -113,9 +113,9 @@ fn steps(cases: &mut Cases, token: &[u8]) {
 
 fn first_lines(cases: &mut Cases) {
     for (id, length, rows) in [
-        (0x1E, 80, 2),
-        (0x1F, 80, 2),
-        (0x1E, 3500, 173),
+        (0x1E, SHORTEST, 2),
+        (0x1F, SHORTEST, 2),
+        (0x1E, LONGEST, 173),
         (0x1F, 99, 9),
         (0x1E, 100, 10),
         (0x1F, 101, 11),
@@ -123,7 +123,7 @@ fn first_lines(cases: &mut Cases) {
         cases.first_line(id, length, Answer::new(0, rows));
     }
     for (number, place) in [(1, 0), (9, 9), (10, 10), (19, 99), (20, 100), (21, 3438)] {
-        cases.first_line(0x1E, 80, Answer::new(number, place));
+        cases.first_line(0x1E, SHORTEST, Answer::new(number, place));
     }
 }
 
@@ -146,7 +146,7 @@ fn row_lines(cases: &mut Cases) {
         (99, 0x0F_000F, 99),
         (100, 0x10_0010, 100),
         (172, 0xFF_FFFF, 171),
-        (300, 0xA9_00FF, 4_294_967_295),
+        (ROWS, 0xA9_00FF, 4_294_967_295),
     ] {
         cases.row_line(place, &row(kind, 3480, 20, 171, rule));
         cases.row_line(place, &row(kind, 9, 10, 0, 0));

@@ -29,10 +29,10 @@ pub fn small_drafts() -> Vec<Vec<u8>> {
         vec![],
         variant(0),
         variant(2),
-        subsection(2, &[&[0], b"B-2     "]),
+        subsection(0x0002, &[&[0], b"B-2     "]),
         export(8, 24, 0, 0),
         export(8, 8, 8, 8),
-        subsection(4, &[&[0], b"Zz09-_ab"]),
+        subsection(0x0004, &[&[0], b"Zz09-_ab"]),
         limits(0, &[]),
         limits(8, &spaced(b"A9*", 64)),
     ];
@@ -60,7 +60,7 @@ pub fn inside() -> Vec<u8> {
 pub fn export(minimum: u8, maximum: u8, variant: usize, cv: usize) -> Vec<u8> {
     let limits = [0, 0, 0, minimum, maximum, variant as u8];
     subsection(
-        3,
+        0x0003,
         &[&limits, &vec![0x77; variant], &[cv as u8], &vec![0x66; cv]],
     )
 }
@@ -69,7 +69,7 @@ pub fn export(minimum: u8, maximum: u8, variant: usize, cv: usize) -> Vec<u8> {
 pub fn limits(mask: usize, label: &[u8]) -> Vec<u8> {
     let masks = vec![0x55; 2 * mask];
     subsection(
-        5,
+        0x0005,
         &[&[0, 0, 0, mask as u8], &masks, &[label.len() as u8], label],
     )
 }
@@ -83,12 +83,12 @@ pub fn spaced(text: &[u8], length: usize) -> Vec<u8> {
 
 /// A transport variant of this length.
 pub fn variant(length: usize) -> Vec<u8> {
-    subsection(1, &[&[0, 0, length as u8], &vec![0x99; length]])
+    subsection(0x0001, &[&[0, 0, length as u8], &vec![0x99; length]])
 }
 
 /// The section 14 with a MAC key, a MAC and both dates.
 fn information_with_dates() -> Vec<u8> {
-    let filled = subsection(1, &[&[0], &[0xA1; 32], &[0xB2; 8], &[0; 16]]);
+    let filled = subsection(0x0001, &[&[0], &[0xA1; 32], &[0xB2; 8], &[0; 16]]);
     information(&[filled, dates([7, 0xD0, 2, 29], [7, 0xD1, 1, 1])])
 }
 
@@ -96,10 +96,10 @@ fn information_with_dates() -> Vec<u8> {
 pub fn full() -> Vec<u8> {
     let subsections = [
         limits(16, &spaced(b"Az#9*", 64)),
-        subsection(4, &[&[0], b"Zz09-_ab"]),
+        subsection(0x0004, &[&[0], b"Zz09-_ab"]),
         variant(2),
         export(8, 16, 16, 8),
-        subsection(2, &[&[0], b"gen1    "]),
+        subsection(0x0002, &[&[0], b"gen1    "]),
     ];
     let first = export_rule(b"EXPORT-1", 7, &subsections);
     token_of(&[first, information_with_dates(), rule(b"gen_1   ", &[])])
@@ -109,9 +109,9 @@ pub fn full() -> Vec<u8> {
 pub fn every() -> Vec<u8> {
     let subsections = [
         variant(0),
-        subsection(2, &[&[0], RULE_ID]),
+        subsection(0x0002, &[&[0], RULE_ID]),
         export(8, 24, 0, 0),
-        subsection(4, &[&[0], RULE_ID]),
+        subsection(0x0004, &[&[0], RULE_ID]),
         limits(0, &[]),
     ];
     let day = [7, 0xD0, 2, 29];
@@ -152,7 +152,7 @@ pub fn name_between_rules() -> Vec<u8> {
 pub fn key_between_rules() -> Vec<u8> {
     token_of(&[
         rule(b"A       ", &[]),
-        rule(b"B       ", &[subsection(2, &[&[0], b"C       "])]),
+        rule(b"B       ", &[subsection(0x0002, &[&[0], b"C       "])]),
         public_key(),
         rule(b"C       ", &[variant(0)]),
         name(),

@@ -20,7 +20,7 @@ pub fn ask(cases: &mut Cases) {
 }
 
 fn starts(cases: &mut Cases) {
-    for id in [0, 0x1D, 0x1E, 0x1F, 0x20, 255] {
+    for id in [0x00, 0x1D, 0x1E, 0x1F, 0x20, 0xFF] {
         for room in [0, 7, 8, 9] {
             cases.start(id, &vec![0xEE; room]);
         }
@@ -296,7 +296,7 @@ fn orders(cases: &mut Cases) {
     }
 }
 
-/// Up to 3,500 bytes in a longer buffer, and one byte more.
+/// Up to the longest in a longer buffer, and one byte more.
 fn longest(cases: &mut Cases) {
     for data in [3394, 3395] {
         let draft = roomy(&smallest_with(&[application_data(data)]), 30);

@@ -208,7 +208,7 @@ loop-again-2 c =
 -- src/whole.rt:53:9
 returns-4 : tie.Need-returns-4 Inv-loop μ-loop
 returns-4 c =
-    read-whole _ _ _ _ (c .before .before .loop .inv .read) (c .before .loop-test .left) (ap (λ (b : Bool). b || getD (c .before .before .loop .seen) 20 false) (c .if3 .taken))
+    read-whole _ _ _ _ (c .before .before .loop .inv .read) (c .before .loop-test .left) (ap (λ (b : Bool). b || getD (c .before .before .loop .seen) 0x14 false) (c .if3 .taken))
 
 -- src/whole.rt:55:8
 array-read-if4 : tie.Need-array-read-if4 Inv-loop μ-loop
