@@ -36,8 +36,8 @@ tag-five t z h a b c =
     omega arith
 
 -- Every tag is below 6.
-pub tag-below : (k : Kind) → tag k < 6
-tag-below k = ltb-true (tag k) 6 (every-kind (λ j. ltb (tag j) 6) refl k)
+pub tag-below : (k : Kind) → tag k < 0x0006
+tag-below k = ltb-true (tag k) 0x0006 (every-kind (λ j. ltb (tag j) 0x0006) refl k)
 
 -- So none above 5 tells a subsection of a rule.
 pub tag-past : (t : ℕ) → 5 < t → subsectionKind rule t ≡ none
@@ -68,12 +68,12 @@ sub-new x o k before at n r e f =
     (not-true (has k before) (c .1 .0), eqb-true (madeLength k r) (stated r) (c .1 .1 .1 .0))
 
 -- Before the first subsection no tag stands.
-unfoldable pub rule-start : (s : List ℕ) (p e : ℕ) → p + 20 ≤ e → RuleRead s p e (p + 20) 1 (replicate 6 0)
+unfoldable pub rule-start : (s : List ℕ) (p e : ℕ) → p + 20 ≤ e → RuleRead s p e (p + 20) 1 (replicate 0x0006 0)
 rule-start s p e h =
     record {
       done = [];
       six = length-replicate {A = ℕ} 6 0;
-      once = λ k o. rw (getD-replicate {A = ℕ} 6 (tag k) 0 0 (tag-below k)) (once-none s (p + 20) k);
+      once = λ k o. rw (getD-replicate {A = ℕ} 0x0006 (tag k) 0 0 (tag-below k)) (once-none s (p + 20) k);
       rows = refl;
       few = omega arith;
       ends = h;
@@ -96,7 +96,7 @@ module _ {s : List ℕ} {p e q n : ℕ} {places : List ℕ} (w : RuleRead s p e 
   tag-told = subsectionKind-sound rule g (read .kind) told .2
 
   -- A tag that was read has its place among the six.
-  pub tag-six : g < 6
+  pub tag-six : g < 0x0006
   tag-six = let b = tag-below (read .kind) in omega (arith, tag-told)
 
   -- The part ends within the section, and is as long as it states.

@@ -48,7 +48,7 @@ pub record Once (s : List ℕ) (first q : ℕ) (done : List Part) (k : Kind) (pl
 -- is what is read from the first one on.
 pub record RuleRead (s : List ℕ) (p e q n : ℕ) (places : List ℕ) : Type 0 where
   pub done : List Part
-  pub six : length places ≡ 6
+  pub six : length places ≡ 0x0006
   pub once : (k : Kind) → OfRule k → Once s (p + 20) q done k (getD places (tag k) 0)
   pub rows : n ≡ suc (length done)
   pub few : n + (p + 19) ≤ q

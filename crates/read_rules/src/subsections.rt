@@ -22,7 +22,7 @@ use read_rule_subsections::references::variant_at;
 use read_sections::refused;
 
 // The subsection at q of a rule, where n bytes are left; places has the place of each tag that stands before, 0 for others.
-fn rule_sub(s: &[u8], page: &[u8; 256], q: usize, n: usize, places: &[usize; 6]) -> u32
+fn rule_sub(s: &[u8], page: &[u8; 256], q: usize, n: usize, places: &[usize; 0x0006]) -> u32
     requires { ⌜ (q + n ≤ length (now s)) × (length (now s) ≤ longest) × Page (now page) ⌝ }
     ensures { λ r. ⌜ ((x : Bool) (before : List Part) → Marked before (now (places .entry)) → r ≡ subRefusal x rule before n (drop q (now (s .entry)))) ⌝ }
 {
@@ -82,7 +82,7 @@ pub fn rule_subs(s: &[u8], page: &[u8; 256], p: usize, e: usize, full: bool) -> 
     requires { ⌜ (p + 20 ≤ e) × (e ≤ length (now s)) × (length (now s) ≤ longest) × (e ≡ p + stated (drop p (now s))) × Page (now page) ⌝ }
     ensures { λ r. ⌜ ((x : Bool) → r ≡ asAnswer sectionRows (sectionRest full x rule p (drop p (now (s .entry))))) ⌝ }
 {
-    let mut places = [0usize; 6];
+    let mut places = [0usize; 0x0006];
     let mut q = p + RULE_FIELDS;
     let mut n: u32 = 1;
     while q < e {

@@ -22,7 +22,7 @@ use Rattle.read_token.proofs.Steps.{Found, found-here, refused-here, sh
 -- the sections up to p are read, and there is a mark for each id
 pub record Turn (s : List ℕ) (full x : Bool) (p n : ℕ) (seen : List Bool) : Type 0 where
   pub read : SectionsRead s full x p n seen
-  pub marks : length seen ≡ 22
+  pub marks : length seen ≡ 0x16
 
 -- The id of a section is its first byte.
 id-here : (s : List ℕ) (p : ℕ) (c : Section) → Stands (drop p s) c → p < length s → sectionId (c .head .kind) ≡ getD s p 0
@@ -42,7 +42,7 @@ module _ {s : List ℕ} {full x : Bool} {p n : ℕ} {seen : List Bool} (w : Turn
       → r ≡ Accepted k → Found s full x (w .read .before) p k
   turn-found a e = found-here s full x (w .read .before) p h (sym e ∙ a (w .read .before) (w .read .marked))
 
-  pub turn-id : {k : ℕ} → Found s full x (w .read .before) p k → getD s p 0 < 22
+  pub turn-id : {k : ℕ} → Found s full x (w .read .before) p k → getD s p 0 < 0x16
   turn-id f = let e = id-here s p (f .section) (f .stands) h in let l = id-small (f .section .head .kind) in omega arith
 
   pub turn-more : {k l i : ℕ} → Found s full x (w .read .before) p k → l ≡ stated (drop p s) → i ≡ getD s p 0

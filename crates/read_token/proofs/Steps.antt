@@ -119,12 +119,12 @@ one-id j k a b e =
     let q : j ≡ k = some-same (sym (sectionKind-told j a) ∙ ap sectionKind e ∙ sectionKind-told k b) in
     subst (λ (y : Kind). sameKind j y ≡ true) q (every-kind (λ i. sameKind i i) refl j)
 
--- Every section's id is below 22.
-pub id-small : (k : Kind) → sectionId k < 22
-id-small k = ltb-true (sectionId k) 22 (every-kind (λ j. ltb (sectionId j) 22) refl k)
+-- Every section's id is below 0x16.
+pub id-small : (k : Kind) → sectionId k < 0x16
+id-small k = ltb-true (sectionId k) 0x16 (every-kind (λ j. ltb (sectionId j) 0x16) refl k)
 
 -- Its kind is marked.
-pub marked-more : (seen : List Bool) (before : List Section) (c : Section) → length seen ≡ 22 → isSubsection (c .head .kind) ≡ false
+pub marked-more : (seen : List Bool) (before : List Section) (c : Section) → length seen ≡ 0x16 → isSubsection (c .head .kind) ≡ false
     → Marked seen before → Marked (set seen (sectionId (c .head .kind)) true) (before ++ c ∷ [])
 marked-more seen before c l f m k a r = kind-more k before c ∙ go (sameKind k (c .head .kind)) refl
   where
@@ -244,7 +244,7 @@ read-more {n} {k} {l} {seen} {later} s full x p w h f e m =
 -- ---- the start and the end
 
 -- Nothing is read yet.
-pub read-none : (s : List ℕ) (full x : Bool) (seen : List Bool) → 8 ≤ length s → ((i : ℕ) → i < 22 → getD seen i false ≡ false) → SectionsRead s full x 8 0 seen
+pub read-none : (s : List ℕ) (full x : Bool) (seen : List Bool) → 8 ≤ length s → ((i : ℕ) → i < 0x16 → getD seen i false ≡ false) → SectionsRead s full x 8 0 seen
 read-none s full x seen h z = record {
   before = [];
   ahead = refl;

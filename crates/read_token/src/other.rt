@@ -28,7 +28,13 @@ fn alone(found: u32, p: usize) -> Answer
 }
 
 // The section at p, which is no rule and of which four bytes are there; seen says, at its id, whether its kind stands before.
-pub(crate) fn other_at(s: &[u8], p: usize, external: bool, full: bool, seen: &[bool; 22]) -> Answer
+pub(crate) fn other_at(
+    s: &[u8],
+    p: usize,
+    external: bool,
+    full: bool,
+    seen: &[bool; 0x16],
+) -> Answer
     requires { ⌜ (p + 4 ≤ length (now s)) × (length (now s) ≤ longest) × (number (bytesAt (now s) p 1) ≡ 0x12 → ⊥) ⌝ }
     ensures { λ r. ⌜ ((before : List Section) → Marked (now (seen .entry)) before → r ≡ asAnswer sectionRows (section full external before p (drop p (now (s .entry))))) ⌝ }
 {

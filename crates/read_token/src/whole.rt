@@ -16,7 +16,7 @@ pub fn sections_of(s: &[u8], external: bool, full: bool) -> Answer
     requires { ⌜ (8 ≤ length (now s)) × (length (now s) ≤ longest) ⌝ }
     ensures { λ r. ⌜ r ≡ sectionsAnswer (now (s .entry)) full external ⌝ }
 {
-    let mut seen = [false; 22];
+    let mut seen = [false; 0x16];
     let mut p: usize = 8;
     let mut rows: u32 = 0;
     while p < s.len() {

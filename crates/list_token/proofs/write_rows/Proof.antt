@@ -11,27 +11,21 @@ Inv-loop table n i₀ i = i ≤ n
 abbrev μ-loop : tie.MeasureT-loop
 μ-loop table n i₀ i = n - i
 
--- src/main.rt:49:5
 loop-holds : tie.Need-loop-holds Inv-loop μ-loop
 loop-holds c = omega arith
 
--- src/main.rt:50:9
 write-nth-requires : tie.Need-write-nth-requires Inv-loop μ-loop
 write-nth-requires c κs = tt
 
--- src/main.rt:51:9
 add-i : tie.Need-add-i Inv-loop μ-loop
 add-i c = search needs
 
--- src/main.rt:49:5
 loop-less : tie.Need-loop-less Inv-loop μ-loop
 loop-less c = omega (arith, c .before .loop-test .taken)
 
--- src/main.rt:49:5
 loop-again : tie.Need-loop-again Inv-loop μ-loop
 loop-again c = omega (arith, c .before .loop-test .taken)
 
--- src/main.rt:47:1
 returns : tie.Need-returns Inv-loop μ-loop
 returns c = tt
 

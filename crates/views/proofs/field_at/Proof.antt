@@ -5,29 +5,23 @@ use borrow.Author.Needs.{needs}
 use Rattle.views.proofs.field_at.Statement.{statement}
 use Rattle.views.proofs.field_at.Tie as tie
 
--- src/lib.rt:15:9
 read-requires : tie.Need-read-requires
 read-requires c κs = search needs
 
--- src/lib.rt:17:25
 enum-known-a : tie.Need-enum-known-a
 enum-known-a c = search needs
 
--- src/lib.rt:18:26
 enum-known-a-2 : tie.Need-enum-known-a-2
 enum-known-a-2 c = search needs
 
--- src/lib.rt:18:36
 field-in-requires : tie.Need-field-in-requires
 field-in-requires c κs =
     whole (c .before .before .before .before .before .args .token .now) (sym (c .before .a2 .given .1) ∙ c .before .before .before .read .ensures) (λ k. (c .before .before .before .before .shared-slice-known .given k) .fits)
 
--- src/lib.rt:12:1
 returns : tie.Need-returns
 returns c =
     field-refused (c .before .before .before .before .before .args .token .now) (c .before .before .before .before .before .args .row) (c .before .before .before .before .before .args .field) (sym (c .before .a .given .1) ∙ c .before .before .before .read .ensures)
 
--- src/lib.rt:12:1
 returns-2 : tie.Need-returns-2
 returns-2 c = c .field-in .ensures
 

@@ -7,55 +7,43 @@ use borrow.Author.Needs.{needs}
 use Rattle.views.proofs.view.Statement.{statement}
 use Rattle.views.proofs.view.Tie as tie
 
--- src/lib.rt:26:9
 field-at-requires : tie.Need-field-at-requires
 field-at-requires c κs = search needs
 
--- src/lib.rt:27:19
 enum-known-w : tie.Need-enum-known-w
 enum-known-w c = search needs
 
--- src/lib.rt:28:16
 enum-told : tie.Need-enum-told
 enum-told c = search needs
 
--- src/lib.rt:28:9
 returns : tie.Need-returns
 unfolding view
 returns c =
     nothing-there (c .before .before .before .before .before .args .token .now) (c .before .before .before .field-at .result) (c .before .before .match .keys2) ∙ ap (bytesThere (c .before .before .before .before .before .args .token .now)) (c .before .before .before .field-at .ensures)
 
--- src/lib.rt:28:9
 slice-aggregate-result : tie.Need-slice-aggregate-result
 slice-aggregate-result c = search needs
 
--- src/lib.rt:30:17
 cast-start : tie.Need-cast-start
 cast-start c = search needs
 
--- src/lib.rt:31:23
 cast-end : tie.Need-cast-end
 cast-end c = search needs
 
--- src/lib.rt:31:15
 add-end : tie.Need-add-end
 add-end c = search needs
 
--- src/lib.rt:32:5
 sub-result : tie.Need-sub-result
 sub-result c = search needs
 
--- src/lib.rt:32:5
 part-result-start : tie.Need-part-result-start
 part-result-start c = search needs
 
--- src/lib.rt:32:5
 part-result-end : tie.Need-part-result-end
 part-result-end c =
     let f = field-within (c .before .before .before .before .before .args .token .now) (c .before .before .before .before .before .args .row) (c .before .before .before .before .before .args .field) (λ k. (c .before .before .before .before .shared-slice-known .given k) .fits) (sym (c .before .w .given .1) ∙ c .before .before .before .field-at .ensures) in
     omega (arith, f .0)
 
--- src/lib.rt:23:1
 returns-2 : tie.Need-returns-2
 unfolding view
 returns-2 c =

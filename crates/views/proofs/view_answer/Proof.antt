@@ -5,25 +5,20 @@ use borrow.Author.Needs.{needs}
 use Rattle.views.proofs.view_answer.Statement.{statement}
 use Rattle.views.proofs.view_answer.Tie as tie
 
--- src/lib.rt:39:9
 field-at-requires : tie.Need-field-at-requires
 field-at-requires c κs = search needs
 
--- src/lib.rt:41:24
 enum-known-w : tie.Need-enum-known-w
 enum-known-w c = search needs
 
--- src/lib.rt:42:19
 enum-known-w-2 : tie.Need-enum-known-w-2
 enum-known-w-2 c = search needs
 
--- src/lib.rt:36:1
 returns : tie.Need-returns
 unfolding viewAnswer
 returns c =
     ap whetherThere (sym (c .before .w .given .1) ∙ c .before .before .before .field-at .ensures)
 
--- src/lib.rt:36:1
 returns-2 : tie.Need-returns-2
 unfolding viewAnswer
 returns-2 c =

@@ -7,11 +7,9 @@ use Rattle.walker.proofs.goes_on.Tie as tie
 enum-told : tie.Need-enum-told
 enum-told c = search needs
 
--- src/lib.rt:45:9
 returns : tie.Need-returns
 returns c = stops (c .before .args .s) (c .before .args .left) (c .match .keys2)
 
--- src/lib.rt:41:1
 returns-2 : tie.Need-returns-2
 returns-2 c = by-count (c .before .before .args .s) (c .before .before .args .left) (c .before .match .keys1)
 

@@ -4,19 +4,15 @@ use borrow.Author.Needs.{needs}
 use Rattle.walker.proofs.place_after.Statement.{statement}
 use Rattle.walker.proofs.place_after.Tie as tie
 
--- src/lib.rt:16:25
 enum-known-s : tie.Need-enum-known-s
 enum-known-s c = search needs
 
--- src/lib.rt:17:9
 returns : tie.Need-returns
 returns c = stays _ (c .before .args .s) (c .match .keys2)
 
--- src/lib.rt:19:5
 cast-result : tie.Need-cast-result
 cast-result c = search needs
 
--- src/lib.rt:13:1
 returns-2 : tie.Need-returns-2
 returns-2 c = search needs
 

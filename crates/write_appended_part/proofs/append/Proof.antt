@@ -14,23 +14,18 @@ use borrow.Author.Needs.{needs}
 use Rattle.write_appended_part.proofs.append.Statement.{statement}
 use Rattle.write_appended_part.proofs.append.Tie as tie
 
--- src/growing.rt:43:9
 two-requires : tie.Need-two-requires
 two-requires c κs = search needs
 
--- src/growing.rt:45:8
 sub-if1 : tie.Need-sub-if1
 sub-if1 c = search needs
 
--- src/growing.rt:46:36
 cast-t16 : tie.Need-cast-t16
 cast-t16 c = search needs
 
--- src/growing.rt:46:9
 same-length : tie.Need-same-length
 same-length c = search needs
 
--- src/growing.rt:46:9
 returns : tie.Need-returns
 returns c =
     let a = c .before .before .before .before .before .args in
@@ -39,19 +34,15 @@ returns c =
     let h = c .if1 .taken in
     no-room (a .draft .now) (a .section) (a .part .now) n (past-most (a .draft .now) (length (a .part .now)) (omega arith))
 
--- src/growing.rt:48:8
 sub-if2 : tie.Need-sub-if2
 sub-if2 c = search needs
 
--- src/growing.rt:49:36
 cast-t18 : tie.Need-cast-t18
 cast-t18 c = search needs
 
--- src/growing.rt:49:9
 same-length-2 : tie.Need-same-length-2
 same-length-2 c = search needs
 
--- src/growing.rt:49:9
 returns-2 : tie.Need-returns-2
 returns-2 c =
     let a = c .before .before .before .before .before .before .args in
@@ -60,23 +51,18 @@ returns-2 c =
     let h = c .if2 .taken in
     no-room (a .draft .now) (a .section) (a .part .now) n (past-lent (a .draft .now) (length (a .part .now)) (omega arith))
 
--- src/growing.rt:51:13
 add-n : tie.Need-add-n
 add-n c = search needs
 
--- src/growing.rt:52:24
 add-two : tie.Need-add-two
 add-two c = search needs
 
--- src/growing.rt:52:9
 two-requires-2 : tie.Need-two-requires-2
 two-requires-2 c κs = search needs
 
--- src/growing.rt:53:41
 add-exchange-part : tie.Need-add-exchange-part
 add-exchange-part c = search needs
 
--- src/growing.rt:53:5
 exchange-part-requires : tie.Need-exchange-part-requires
 exchange-part-requires c κs =
     let t = c .before .before .before .before .before .before .before .before .before .before in
@@ -91,11 +77,9 @@ exchange-part-requires c κs =
     let em = c .before .before .two2 .ensures .0 ∙ stated-at (a .draft .now) (a .section) in
     (omega arith, omega arith, omega arith, omega arith)
 
--- src/growing.rt:54:24
 slice-reshare-prefix-read-draft : tie.Need-slice-reshare-prefix-read-draft
 slice-reshare-prefix-read-draft c = search needs
 
--- src/growing.rt:54:24
 slice-aggregate-read-draft : tie.Need-slice-aggregate-read-draft
 slice-aggregate-read-draft c =
     let t = c .before .before .before .before .before .before .before .before .before .before .before .before .before .before .before .before in
@@ -106,35 +90,27 @@ slice-aggregate-read-draft c =
     let n = c .before .before .before .before .before .before .before .before .before .before .before .before .two .ensures .0 in
     sym (length-take-le _ (x .last .0) (omega arith))
 
--- src/growing.rt:54:9
 read-draft-requires : tie.Need-read-draft-requires
 read-draft-requires c κs = search needs
 
--- src/growing.rt:56:25
 enum-known-a : tie.Need-enum-known-a
 enum-known-a c = search needs
 
--- src/growing.rt:57:13
 exchange-part-requires-2 : tie.Need-exchange-part-requires-2
 exchange-part-requires-2 c κs = search needs
 
--- src/growing.rt:60:26
 enum-known-a-2 : tie.Need-enum-known-a-2
 enum-known-a-2 c = search needs
 
--- src/growing.rt:60:53
 cast-t34 : tie.Need-cast-t34
 cast-t34 c = search needs
 
--- src/growing.rt:38:1
 same-length-3 : tie.Need-same-length-3
 same-length-3 c = search needs
 
--- src/growing.rt:38:1
 same-length-4 : tie.Need-same-length-4
 same-length-4 c = search needs
 
--- src/growing.rt:38:1
 returns-3 : tie.Need-returns-3
 returns-3 c =
     let t = c .before .before .before .before .before .before .before .before .before .before .before .before .before .before .before .before .before .before .before .before .before .before .before .before .before .before .before in
@@ -157,15 +133,12 @@ returns-3 c =
     (sym (c .before .before .before .before .before .before .before .before .a .given .1) ∙ c .before .before .before .before .before .before .before .before .before .before .read-draft .ensures) in
     (r .0, old ∙ r .1)
 
--- src/growing.rt:38:1
 same-length-5 : tie.Need-same-length-5
 same-length-5 c = search needs
 
--- src/growing.rt:38:1
 same-length-6 : tie.Need-same-length-6
 same-length-6 c = search needs
 
--- src/growing.rt:38:1
 returns-4 : tie.Need-returns-4
 returns-4 c =
     let t = c .before .before .before .before .before .before .before .before .before .before .before .before .before .before .before .before .before .before .before .before in

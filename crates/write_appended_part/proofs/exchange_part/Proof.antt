@@ -5,27 +5,21 @@ use borrow.Author.Needs.{needs}
 use Rattle.write_appended_part.proofs.exchange_part.Statement.{statement}
 use Rattle.write_appended_part.proofs.exchange_part.Tie as tie
 
--- src/growing.rt:32:5
 exchange-requires : tie.Need-exchange-requires
 exchange-requires c κs = search needs
 
--- src/growing.rt:33:5
 state-requires : tie.Need-state-requires
 state-requires c κs = search needs
 
--- src/growing.rt:34:5
 state-requires-2 : tie.Need-state-requires-2
 state-requires-2 c κs = search needs
 
--- src/growing.rt:27:1
 same-length : tie.Need-same-length
 same-length c = search needs
 
--- src/growing.rt:27:1
 same-length-2 : tie.Need-same-length-2
 same-length-2 c = search needs
 
--- src/growing.rt:27:1
 returns : tie.Need-returns
 returns c =
     let x = c .before .before .before .before .before .before .before .before .before .before .before .before in

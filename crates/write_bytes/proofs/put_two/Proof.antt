@@ -6,35 +6,27 @@ use Rattle.write_bytes.proofs.Stores.{two-stored}
 use Rattle.write_bytes.proofs.put_two.Statement.{statement}
 use Rattle.write_bytes.proofs.put_two.Tie as tie
 
--- src/lib.rt:28:16
 cast-line : tie.Need-cast-line
 cast-line c = search needs
 
--- src/lib.rt:28:5
 slice-write-line : tie.Need-slice-write-line
 slice-write-line c = search needs
 
--- src/lib.rt:29:20
 cast-line-2 : tie.Need-cast-line-2
 cast-line-2 c = search needs
 
--- src/lib.rt:29:10
 add-line : tie.Need-add-line
 add-line c = search needs
 
--- src/lib.rt:29:5
 slice-write-line-2 : tie.Need-slice-write-line-2
 slice-write-line-2 c = simp length-set (search needs)
 
--- src/lib.rt:30:5
 add-result : tie.Need-add-result
 add-result c = search needs
 
--- src/lib.rt:24:1
 same-length : tie.Need-same-length
 same-length c = search needs
 
--- src/lib.rt:24:1
 returns : tie.Need-returns
 returns c =
     let a = c .args in

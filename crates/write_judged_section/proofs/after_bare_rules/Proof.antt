@@ -20,52 +20,42 @@ Inv-loop s p q₀ q = (p ≤ q) × (q ≤ length s) × ((i : ℕ) → (0x12 ≡ 
 abbrev μ-loop : tie.MeasureT-loop
 μ-loop s p q₀ q = length s - q
 
--- src/lib.rt:19:5
 loop-holds : tie.Need-loop-holds Inv-loop μ-loop
 loop-holds c =
     (omega arith, c .before .pre .0, λ i n. here)
 
--- src/lib.rt:19:11
 add-loop : tie.Need-add-loop Inv-loop μ-loop
 add-loop c =
     let i = c .loop .inv .1 in let m = c .before .before .pre .1 in omega arith
 
--- src/lib.rt:20:12
 shared-slice-read-if1 : tie.Need-shared-slice-read-if1 Inv-loop μ-loop
 shared-slice-read-if1 c =
     let h = c .before .loop-test .taken in omega arith
 
--- src/lib.rt:21:13
 returns : tie.Need-returns Inv-loop μ-loop
 returns c =
     c .before .before .before .loop .inv
 
--- src/lib.rt:23:19
 add-two : tie.Need-add-two Inv-loop μ-loop
 add-two c =
     let h = c .before .before .loop-test .taken in let m = c .before .before .before .before .before .pre .1 in omega arith
 
--- src/lib.rt:23:12
 two-requires : tie.Need-two-requires Inv-loop μ-loop
 two-requires c κs =
     let h = c .before .before .loop-test .taken in omega arith
 
--- src/lib.rt:24:13
 returns-2 : tie.Need-returns-2 Inv-loop μ-loop
 returns-2 c =
     c .before .before .before .before .before .loop .inv
 
--- src/lib.rt:26:9
 add-q : tie.Need-add-q Inv-loop μ-loop
 add-q c =
     let h = c .before .before .before .before .loop-test .taken in let m = c .before .before .before .before .before .before .before .pre .1 in omega arith
 
--- src/lib.rt:19:5
 loop-less : tie.Need-loop-less Inv-loop μ-loop
 loop-less c =
     let h = c .before .before .before .before .loop-test .taken in omega arith
 
--- src/lib.rt:19:5
 loop-again : tie.Need-loop-again Inv-loop μ-loop
 loop-again c =
     let s = c .before .before .before .before .before .before .before .args .s .now in
@@ -77,7 +67,6 @@ loop-again c =
     let id : idOf (drop q s) ≡ 0x12 = id-at s q (omega arith) ∙ c .before .before .if1 .left in
     (omega arith, omega arith, λ i k. passed-part s q (v .2 i k) (λ e. k (sym id ∙ e)) (sym (c .if2 .left) ∙ n) (omega arith) (omega arith))
 
--- src/lib.rt:14:1
 returns-3 : tie.Need-returns-3 Inv-loop μ-loop
 returns-3 c =
     c .before .loop .inv

@@ -17,19 +17,15 @@ use borrow.Author.Needs.{needs}
 use Rattle.write_judged_section.proofs.place_for.Statement.{statement}
 use Rattle.write_judged_section.proofs.place_for.Tie as tie
 
--- src/lib.rt:52:9
 read-draft-requires : tie.Need-read-draft-requires
 read-draft-requires c κs = search needs
 
--- src/lib.rt:54:25
 enum-known-a : tie.Need-enum-known-a
 enum-known-a c = search needs
 
--- src/lib.rt:55:26
 enum-known-a-2 : tie.Need-enum-known-a-2
 enum-known-a-2 c = search needs
 
--- src/lib.rt:56:17
 two-requires : tie.Need-two-requires
 two-requires c κs =
     let d = c .before .before .before .before .before .args .draft .now in
@@ -37,7 +33,6 @@ two-requires c κs =
     let k = header-stands d w in
     omega (arith, k .least, k .there)
 
--- src/lib.rt:57:16
 sub-if1 : tie.Need-sub-if1
 sub-if1 c =
     let d = c .before .before .before .before .before .before .args .draft .now in
@@ -46,11 +41,9 @@ sub-if1 c =
     let l : c .two .result ≡ stated d = c .two .ensures .0 in
     omega (arith, k .most)
 
--- src/lib.rt:58:44
 cast-t12 : tie.Need-cast-t12
 cast-t12 c = search needs
 
--- src/lib.rt:58:17
 returns : tie.Need-returns
 returns c =
     let d = c .before .before .before .before .before .before .before .args .draft .now in
@@ -61,7 +54,6 @@ returns c =
     let h = c .if1 .taken in
     no-place d (c .before .before .before .before .before .before .before .args .id) (c .before .before .before .before .before .before .before .args .n) (w .0) (w .1) l (past-most d (c .before .before .before .before .before .before .before .args .n) (omega arith))
 
--- src/lib.rt:60:16
 sub-if2 : tie.Need-sub-if2
 sub-if2 c =
     let d = c .before .before .before .before .before .before .before .args .draft .now in
@@ -70,11 +62,9 @@ sub-if2 c =
     let l : c .before .two .result ≡ stated d = c .before .two .ensures .0 in
     omega (arith, k .there)
 
--- src/lib.rt:61:44
 cast-t14 : tie.Need-cast-t14
 cast-t14 c = search needs
 
--- src/lib.rt:61:17
 returns-2 : tie.Need-returns-2
 returns-2 c =
     let d = c .before .before .before .before .before .before .before .before .args .draft .now in
@@ -85,7 +75,6 @@ returns-2 c =
     let h = c .if2 .taken in
     no-place d (c .before .before .before .before .before .before .before .before .args .id) (c .before .before .before .before .before .before .before .before .args .n) (w .0) (w .1) l (past-lent d (c .before .before .before .before .before .before .before .before .args .n) (omega arith))
 
--- src/lib.rt:63:23
 slice-aggregate-stands : tie.Need-slice-aggregate-stands
 slice-aggregate-stands c =
     let d = c .before .before .before .before .before .before .before .before .before .args .draft .now in
@@ -95,7 +84,6 @@ slice-aggregate-stands c =
     let m = k .there in
     sym (length-take-le _ d (omega arith))
 
--- src/lib.rt:63:16
 stands-requires : tie.Need-stands-requires
 stands-requires c κs =
     let d = c .before .before .before .before .before .before .before .before .before .args .draft .now in
@@ -111,11 +99,9 @@ stands-requires c κs =
       c .before .before .before .before .before .before .before .before .before .pre,
     )
 
--- src/lib.rt:64:43
 cast-t18 : tie.Need-cast-t18
 cast-t18 c = search needs
 
--- src/lib.rt:64:17
 returns-3 : tie.Need-returns-3
 returns-3 c =
     let d = c .before .before .before .before .before .before .before .before .before .before .before .args .draft .now in
@@ -131,16 +117,13 @@ returns-3 c =
     (subst (λ (j : ℕ). StandsIn (drop 8 (take j d)) i (c .before .stands .result)) l (c .before .stands .ensures)) in
     stands-before d i (c .before .before .before .before .before .before .before .before .before .before .before .args .n) (w .0) (w .1) l (omega arith) (omega arith) (sym (c .if3 .taken) ∙ found)
 
--- src/lib.rt:66:30
 cast-t19 : tie.Need-cast-t19
 cast-t19 c = search needs
 
--- src/lib.rt:48:1
 returns-4 : tie.Need-returns-4
 returns-4 c =
     own-place (c .before .before .before .before .before .args .draft .now) (c .before .before .before .before .before .args .id) (c .before .before .before .before .before .args .n) (sym (c .before .a .given .1) ∙ c .before .before .before .read-draft .ensures)
 
--- src/lib.rt:48:1
 returns-5 : tie.Need-returns-5
 returns-5 c =
     let d = c .before .before .before .before .before .before .before .before .before .before .before .args .draft .now in

@@ -20,22 +20,18 @@ Inv-loop s id p₀ p = (p ≤ length s) × PassedTo id (drop p s) (drop 8 s)
 abbrev μ-loop : tie.MeasureT-loop
 μ-loop s id p₀ p = length s - p
 
--- src/lib.rt:36:9
 after-bare-rules-requires : tie.Need-after-bare-rules-requires Inv-loop μ-loop
 after-bare-rules-requires c κs =
     (c .before .pre .0, c .before .pre .1)
 
--- src/lib.rt:37:5
 loop-holds : tie.Need-loop-holds Inv-loop μ-loop
 loop-holds c =
     (c .after-bare-rules .ensures .1, c .after-bare-rules .ensures .2 (c .before .before .args .id) (c .before .before .pre .3))
 
--- src/lib.rt:38:12
 shared-slice-read-if1 : tie.Need-shared-slice-read-if1 Inv-loop μ-loop
 shared-slice-read-if1 c =
     let h = c .before .loop-test .taken in omega arith
 
--- src/lib.rt:39:13
 returns : tie.Need-returns Inv-loop μ-loop
 returns c =
     let s = c .before .before .before .before .before .before .args .s .now in
@@ -44,7 +40,6 @@ returns c =
     let h = c .before .before .loop-test .taken in
     (drop p s, passed-tiled (c .before .before .before .loop .inv .1), omega arith, id-at s p (omega arith) ∙ c .if1 .taken)
 
--- src/lib.rt:41:24
 add-two : tie.Need-add-two Inv-loop μ-loop
 add-two c =
     let s = c .before .before .before .before .before .before .args .s .now in
@@ -54,7 +49,6 @@ add-two c =
     let m = c .before .before .before .before .before .before .pre .1 in
     omega arith
 
--- src/lib.rt:41:13
 two-requires : tie.Need-two-requires Inv-loop μ-loop
 two-requires c κs =
     let s = c .before .before .before .before .before .before .args .s .now in
@@ -64,7 +58,6 @@ two-requires c κs =
     let m = c .before .before .before .before .before .before .pre .1 in
     omega arith
 
--- src/lib.rt:42:33
 add-after-bare-rules : tie.Need-add-after-bare-rules Inv-loop μ-loop
 add-after-bare-rules c =
     let s = c .before .before .before .before .before .before .before .args .s .now in
@@ -75,7 +68,6 @@ add-after-bare-rules c =
     let n = c .two .ensures .0 ∙ stated-at s (c .before .before .before .before .loop .p) in
     omega arith
 
--- src/lib.rt:42:9
 after-bare-rules-requires-2 : tie.Need-after-bare-rules-requires-2 Inv-loop μ-loop
 after-bare-rules-requires-2 c κs =
     let s = c .before .before .before .before .before .before .before .args .s .now in
@@ -86,7 +78,6 @@ after-bare-rules-requires-2 c κs =
     let n = c .two .ensures .0 ∙ stated-at s (c .before .before .before .before .loop .p) in
     (omega arith, m)
 
--- src/lib.rt:37:5
 loop-less : tie.Need-loop-less Inv-loop μ-loop
 loop-less c =
     let s = c .before .before .before .before .before .before .before .before .args .s .now in
@@ -99,7 +90,6 @@ loop-less c =
     let f = c .after-bare-rules2 .ensures .0 in
     omega arith
 
--- src/lib.rt:37:5
 loop-again : tie.Need-loop-again Inv-loop μ-loop
 loop-again c =
     let s = c .before .before .before .before .before .before .before .before .args .s .now in
@@ -113,7 +103,6 @@ loop-again c =
     let one = passed-part s (c .before .before .before .before .before .loop .p) (c .before .before .before .before .before .loop .inv .1) (λ q. c .before .before .if1 .left (sym (id-at s (c .before .before .before .before .before .loop .p) (omega arith)) ∙ q)) n (omega arith) (omega arith) in
     (c .after-bare-rules2 .ensures .1, passed-through one (c .after-bare-rules2 .ensures .2 i (c .before .before .before .before .before .before .before .before .pre .3)))
 
--- src/lib.rt:32:1
 returns-2 : tie.Need-returns-2 Inv-loop μ-loop
 returns-2 c =
     passed-all (c .before .before .before .before .args .s .now) (c .before .loop .p) (c .before .loop .inv .1) (c .loop-test .left)

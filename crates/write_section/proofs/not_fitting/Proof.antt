@@ -6,35 +6,28 @@ use borrow.Author.Needs.{needs}
 use Rattle.write_section.proofs.not_fitting.Statement.{statement}
 use Rattle.write_section.proofs.not_fitting.Tie as tie
 
--- src/lib.rt:19:9
 read-draft-requires : tie.Need-read-draft-requires
 read-draft-requires c κs = search needs
 
--- src/lib.rt:21:25
 enum-known-a : tie.Need-enum-known-a
 enum-known-a c = search needs
 
--- src/lib.rt:22:26
 enum-known-a-2 : tie.Need-enum-known-a-2
 enum-known-a-2 c = search needs
 
--- src/lib.rt:22:56
 two-requires : tie.Need-two-requires
 two-requires c κs =
     let d = c .before .before .before .before .before .args .draft .now in
     let s = header-stands d (reads d (sym (c .before .a2 .given .1) ∙ c .before .before .before .read-draft .ensures)) in
     omega (arith, s .least, s .there)
 
--- src/lib.rt:22:56
 cast-t8 : tie.Need-cast-t8
 cast-t8 c = search needs
 
--- src/lib.rt:16:1
 returns : tie.Need-returns
 returns c =
     unfit-fault (c .before .before .before .before .before .args .draft .now) (sym (c .before .a .given .1) ∙ c .before .before .before .read-draft .ensures)
 
--- src/lib.rt:16:1
 returns-2 : tie.Need-returns-2
 returns-2 c =
     let d = c .before .before .before .before .before .before .args .draft .now in

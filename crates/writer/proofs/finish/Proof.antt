@@ -8,19 +8,15 @@ use borrow.Author.Needs.{needs}
 use Rattle.writer.proofs.finish.Statement.{statement}
 use Rattle.writer.proofs.finish.Tie as tie
 
--- src/lib.rt:28:9
 read-draft-requires : tie.Need-read-draft-requires
 read-draft-requires c κs = search needs
 
--- src/lib.rt:30:25
 enum-known-a : tie.Need-enum-known-a
 enum-known-a c = search needs
 
--- src/lib.rt:31:26
 enum-known-a-2 : tie.Need-enum-known-a-2
 enum-known-a-2 c = search needs
 
--- src/lib.rt:32:17
 two-requires : tie.Need-two-requires
 two-requires c κs =
     let d = c .before .before .before .before .before .args .draft .now in
@@ -28,11 +24,9 @@ two-requires c κs =
     let l = header-stands d r in
     omega (arith, l .least, l .there)
 
--- src/lib.rt:33:26
 cast-length : tie.Need-cast-length
 cast-length c = search needs
 
--- src/lib.rt:34:26
 slice-aggregate-read : tie.Need-slice-aggregate-read
 slice-aggregate-read c =
     let d = c .before .before .before .before .before .before .before .args .draft .now in
@@ -40,30 +34,24 @@ slice-aggregate-read c =
     let l = header-stands d r in
     sym (length-take-le _ d (omega (arith, l .there, c .before .two .ensures .0)))
 
--- src/lib.rt:34:17
 read-requires : tie.Need-read-requires
 read-requires c κs = search needs
 
--- src/lib.rt:36:33
 enum-known-b : tie.Need-enum-known-b
 enum-known-b c = search needs
 
--- src/lib.rt:37:34
 enum-known-b-2 : tie.Need-enum-known-b-2
 enum-known-b-2 c = search needs
 
--- src/lib.rt:25:1
 returns : tie.Need-returns
 returns c = finish-own _ (sym (c .before .a .given .1) ∙ c .before .before .before .read-draft .ensures)
 
--- src/lib.rt:25:1
 returns-2 : tie.Need-returns-2
 returns-2 c =
     let d = c .before .before .before .before .before .before .before .before .before .before .before .args .draft .now in
     let r = reads d (sym (c .before .before .before .before .before .before .before .a2 .given .1) ∙ c .before .before .before .before .before .before .before .before .before .read-draft .ensures) in
     finish-refused d r (c .before .before .before .before .before .two .ensures .0) (sym (c .before .b .given .1) ∙ c .before .before .before .read .ensures)
 
--- src/lib.rt:25:1
 returns-3 : tie.Need-returns-3
 returns-3 c =
     let d = c .before .before .before .before .before .before .before .before .before .before .before .args .draft .now in

@@ -38,7 +38,7 @@ room c =
     loop-room (b .args .s .now) false rule (c .before .before .before .before .loop .inv .done) (c .before .before .before .before .loop .q) (b .args .e) (c .before .before .before .loop-test .taken) (told (c .before) false) (c .if1 .left)
 
 -- its tag is one of the five
-small : (c : tie.After-two Inv-loop μ-loop) → c .two .result < 6
+small : (c : tie.After-two Inv-loop μ-loop) → c .two .result < 0x0006
 small c =
     let l : _≡_ {A = ℕ} (number (bytesAt (c .before .before .before .before .before .before .before .args .s .now) (c .before .before .before .before .before .loop .q + 2) 2)) _ = refl in
     tag-six (c .before .before .before .before .before .loop .inv) (c .before .before .before .before .loop-test .taken) (c .before .before .before .before .before .before .before .pre .1) (told (c .before .before)) (c .before .if1 .left) l (c .two .ensures .0)

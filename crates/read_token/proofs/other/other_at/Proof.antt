@@ -12,59 +12,45 @@ use borrow.Author.Needs.{needs}
 use Rattle.read_token.proofs.other.other_at.Statement.{statement}
 use Rattle.read_token.proofs.other.other_at.Tie as tie
 
--- src/other.rt:34:11
 shared-slice-read-match : tie.Need-shared-slice-read-match
 shared-slice-read-match c = search needs
 
--- src/other.rt:35:41
 element-copy-out-public-key-at : tie.Need-element-copy-out-public-key-at
 element-copy-out-public-key-at c = search needs
 
--- src/other.rt:35:21
 public-key-at-requires : tie.Need-public-key-at-requires
 public-key-at-requires c κs = search needs
 
--- src/other.rt:35:15
 alone-requires : tie.Need-alone-requires
 alone-requires c κs = search needs
 
--- src/other.rt:36:35
 element-copy-out-name-at : tie.Need-element-copy-out-name-at
 element-copy-out-name-at c = search needs
 
--- src/other.rt:36:21
 name-at-requires : tie.Need-name-at-requires
 name-at-requires c κs = search needs
 
--- src/other.rt:36:15
 alone-requires-2 : tie.Need-alone-requires-2
 alone-requires-2 c κs = search needs
 
--- src/other.rt:37:52
 element-copy-out-information-at : tie.Need-element-copy-out-information-at
 element-copy-out-information-at c = search needs
 
--- src/other.rt:37:15
 information-at-requires : tie.Need-information-at-requires
 information-at-requires c κs = (c .before .before .before .before .pre .0, c .before .before .before .before .pre .1, sym (byte-number _ _ (let h = c .before .before .before .before .pre .0 in omega arith)) ∙ c .before .match .keys3)
 
--- src/other.rt:38:47
 element-copy-out-application-data-at : tie.Need-element-copy-out-application-data-at
 element-copy-out-application-data-at c = search needs
 
--- src/other.rt:38:21
 application-data-at-requires : tie.Need-application-data-at-requires
 application-data-at-requires c κs = search needs
 
--- src/other.rt:38:15
 alone-requires-3 : tie.Need-alone-requires-3
 alone-requires-3 c κs = search needs
 
--- src/other.rt:39:33
 cast-t25 : tie.Need-cast-t25
 cast-t25 c = search needs
 
--- src/other.rt:30:1
 returns : tie.Need-returns
 returns c =
     λ before m.
@@ -74,7 +60,6 @@ returns c =
     ∙ alone-told (c .before .before .before .before .before .before .args .full) (c .before .before .before .before .before .before .args .external) publicKey before s p _ (c .before .before .before .before .before .before .pre .0)
     (kind-at publicKey s p (c .before .before .before .before .before .before .pre .0) refl (c .before .before .before .match .keys1)) (m publicKey refl refl) (c .before .public-key-at .ensures) refl refl
 
--- src/other.rt:30:1
 returns-2 : tie.Need-returns-2
 returns-2 c =
     λ before m.
@@ -84,12 +69,10 @@ returns-2 c =
     ∙ alone-told (c .before .before .before .before .before .before .args .full) (c .before .before .before .before .before .before .args .external) name before s p _ (c .before .before .before .before .before .before .pre .0)
     (kind-at name s p (c .before .before .before .before .before .before .pre .0) refl (c .before .before .before .match .keys2)) (m name refl refl) (c .before .name-at .ensures) refl refl
 
--- src/other.rt:30:1
 returns-3 : tie.Need-returns-3
 returns-3 c =
     λ before m. c .information-at .ensures before (m information refl refl)
 
--- src/other.rt:30:1
 returns-4 : tie.Need-returns-4
 returns-4 c =
     λ before m.
@@ -99,7 +82,6 @@ returns-4 c =
     ∙ alone-told (c .before .before .before .before .before .before .args .full) (c .before .before .before .before .before .before .args .external) applicationData before s p _ (c .before .before .before .before .before .before .pre .0)
     (kind-at applicationData s p (c .before .before .before .before .before .before .pre .0) refl (c .before .before .before .match .keys4)) (m applicationData refl refl) (c .before .application-data-at .ensures) refl refl
 
--- src/other.rt:30:1
 returns-5 : tie.Need-returns-5
 returns-5 c =
     λ before m.

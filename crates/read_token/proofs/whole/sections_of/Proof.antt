@@ -18,11 +18,9 @@ Inv-loop s external full seen₀ p₀ rows₀ seen p rows = Turn s full external
 abbrev μ-loop : tie.MeasureT-loop
 μ-loop s external full seen₀ p₀ rows₀ seen p rows = length s - p
 
--- src/whole.rt:22:5
 loop-holds : tie.Need-loop-holds Inv-loop μ-loop
-loop-holds c = record { read = read-none _ _ _ _ (c .before .pre .0) (λ i l. getD-replicate 22 i false false l); marks = refl }
+loop-holds c = record { read = read-none _ _ _ _ (c .before .pre .0) (λ i l. getD-replicate 0x16 i false false l); marks = refl }
 
--- src/whole.rt:23:22
 add-if1 : tie.Need-add-if1 Inv-loop μ-loop
 add-if1 c =
     let v = c .before .loop .inv in
@@ -31,7 +29,6 @@ add-if1 c =
     let few = v .read .few in
     omega arith
 
--- src/whole.rt:24:39
 cast-t20 : tie.Need-cast-t20 Inv-loop μ-loop
 cast-t20 c =
     let v = c .before .before .loop .inv in
@@ -40,15 +37,12 @@ cast-t20 c =
     let few = v .read .few in
     omega arith
 
--- src/whole.rt:24:13
 returns : tie.Need-returns Inv-loop μ-loop
 returns c = turn-short (c .before .before .loop .inv) (c .before .loop-test .taken) (c .if1 .taken)
 
--- src/whole.rt:26:18
 shared-slice-read-id : tie.Need-shared-slice-read-id Inv-loop μ-loop
 shared-slice-read-id c = c .before .before .loop-test .taken
 
--- src/whole.rt:28:17
 rules-requires : tie.Need-rules-requires Inv-loop μ-loop
 rules-requires c κs =
     let v = c .before .before .before .before .loop .inv in
@@ -58,31 +52,25 @@ rules-requires c κs =
     let four = c .before .before .if1 .left in
     (omega arith, short, sym (byte-number (c .before .before .before .before .before .before .args .s .now) (c .before .before .before .before .loop .p) (c .before .before .before .loop-test .taken)) ∙ c .if2 .taken, (_, (_, v .read)))
 
--- src/whole.rt:30:28
 enum-known-run : tie.Need-enum-known-run Inv-loop μ-loop
 enum-known-run c = search needs
 
--- src/whole.rt:31:21
 returns-2 : tie.Need-returns-2 Inv-loop μ-loop
 returns-2 c =
     ran-refused _ _ _ _ _ (c .before .before .before .rules .ensures _ _ (c .before .before .before .before .before .before .before .before .loop .inv .read)) (c .before .run .given .1)
 
--- src/whole.rt:33:27
 enum-known-run-2 : tie.Need-enum-known-run-2 Inv-loop μ-loop
 enum-known-run-2 c = search needs
 
--- src/whole.rt:22:5
 loop-less : tie.Need-loop-less Inv-loop μ-loop
 loop-less c =
     let r = turn-ran (c .before .before .before .before .before .before .before .before .loop .inv) (c .before .before .before .before .before .before .before .loop-test .taken) (c .before .before .before .rules .ensures _ _ (c .before .before .before .before .before .before .before .before .loop .inv .read)) (c .before .run2 .given .1) in
     omega (arith, r .1, c .before .before .before .before .before .before .before .loop-test .taken)
 
--- src/whole.rt:22:5
 loop-again : tie.Need-loop-again Inv-loop μ-loop
 loop-again c =
     turn-ran (c .before .before .before .before .before .before .before .before .loop .inv) (c .before .before .before .before .before .before .before .loop-test .taken) (c .before .before .before .rules .ensures _ _ (c .before .before .before .before .before .before .before .before .loop .inv .read)) (c .before .run2 .given .1) .0
 
--- src/whole.rt:40:13
 other-at-requires : tie.Need-other-at-requires Inv-loop μ-loop
 other-at-requires c κs =
     let v = c .before .before .before .before .before .loop .inv in
@@ -92,20 +80,16 @@ other-at-requires c κs =
     let four = c .before .before .before .if1 .left in
     (omega arith, short, λ e. c .before .if2 .left (byte-number (c .before .before .before .before .before .before .before .args .s .now) (c .before .before .before .before .before .loop .p) (c .before .before .before .before .loop-test .taken) ∙ e))
 
--- src/whole.rt:42:29
 enum-known-a : tie.Need-enum-known-a Inv-loop μ-loop
 enum-known-a c = search needs
 
--- src/whole.rt:43:17
 returns-3 : tie.Need-returns-3 Inv-loop μ-loop
 returns-3 c =
     turn-refused (c .before .before .before .before .before .before .before .before .before .loop .inv) (c .before .before .before .before .before .before .before .before .loop-test .taken) (c .before .before .before .other-at .ensures) (c .before .a .given .1)
 
--- src/whole.rt:45:30
 enum-known-a-2 : tie.Need-enum-known-a-2 Inv-loop μ-loop
 enum-known-a-2 c = search needs
 
--- src/whole.rt:46:17
 add-rows : tie.Need-add-rows Inv-loop μ-loop
 add-rows c =
     let v = c .before .before .before .before .before .before .before .before .before .loop .inv in
@@ -118,11 +102,9 @@ add-rows c =
     let more = f .few in
     omega arith
 
--- src/whole.rt:49:14
 wide-requires : tie.Need-wide-requires Inv-loop μ-loop
 wide-requires c κs = tt
 
--- src/whole.rt:49:9
 array-write-seen : tie.Need-array-write-seen Inv-loop μ-loop
 array-write-seen c =
     let v = c .before .before .before .before .before .before .before .before .before .before .loop .inv in
@@ -136,7 +118,6 @@ array-write-seen c =
     let i = turn-id v (c .before .before .before .before .before .before .before .before .before .loop-test .taken) f in
     omega (arith, c .wide .ensures .0)
 
--- src/whole.rt:50:21
 add-two : tie.Need-add-two Inv-loop μ-loop
 add-two c =
     let v = c .before .before .before .before .before .before .before .before .before .before .loop .inv in
@@ -149,7 +130,6 @@ add-two c =
     let more = f .few in
     omega arith
 
--- src/whole.rt:50:14
 two-requires : tie.Need-two-requires Inv-loop μ-loop
 two-requires c κs =
     let v = c .before .before .before .before .before .before .before .before .before .before .loop .inv in
@@ -162,7 +142,6 @@ two-requires c κs =
     let more = f .few in
     omega arith
 
--- src/whole.rt:50:9
 add-p : tie.Need-add-p Inv-loop μ-loop
 add-p c =
     let v = c .before .before .before .before .before .before .before .before .before .before .before .loop .inv in
@@ -176,7 +155,6 @@ add-p c =
     let l : c .two .result ≡ stated (drop (c .before .before .before .before .before .before .before .before .before .before .before .loop .p) (c .before .before .before .before .before .before .before .before .before .before .before .before .before .args .s .now)) = number-at (c .before .before .before .before .before .before .before .before .before .before .before .before .before .args .s .now) (c .before .before .before .before .before .before .before .before .before .before .before .loop .p) 2 2 (c .two .ensures .0) in
     omega arith
 
--- src/whole.rt:22:5
 loop-less-2 : tie.Need-loop-less-2 Inv-loop μ-loop
 loop-less-2 c =
     let v = c .before .before .before .before .before .before .before .before .before .before .before .loop .inv in
@@ -191,7 +169,6 @@ loop-less-2 c =
     let h = c .before .before .before .before .before .before .before .before .before .before .loop-test .taken in
     omega arith
 
--- src/whole.rt:22:5
 loop-again-2 : tie.Need-loop-again-2 Inv-loop μ-loop
 loop-again-2 c =
     let v = c .before .before .before .before .before .before .before .before .before .before .before .loop .inv in
@@ -205,21 +182,17 @@ loop-again-2 c =
     let l : c .two .result ≡ stated (drop (c .before .before .before .before .before .before .before .before .before .before .before .loop .p) (c .before .before .before .before .before .before .before .before .before .before .before .before .before .args .s .now)) = number-at (c .before .before .before .before .before .before .before .before .before .before .before .before .before .args .s .now) (c .before .before .before .before .before .before .before .before .before .before .before .loop .p) 2 2 (c .two .ensures .0) in
     turn-more v (c .before .before .before .before .before .before .before .before .before .before .loop-test .taken) f l (c .before .wide .ensures .0)
 
--- src/whole.rt:53:9
 returns-4 : tie.Need-returns-4 Inv-loop μ-loop
 returns-4 c =
     read-whole _ _ _ _ (c .before .before .loop .inv .read) (c .before .loop-test .left) (ap (λ (b : Bool). b || getD (c .before .before .loop .seen) 0x14 false) (c .if3 .taken))
 
--- src/whole.rt:55:8
 array-read-if4 : tie.Need-array-read-if4 Inv-loop μ-loop
 array-read-if4 c = search needs
 
--- src/whole.rt:56:9
 returns-5 : tie.Need-returns-5 Inv-loop μ-loop
 returns-5 c =
     read-whole _ _ _ _ (c .before .before .before .loop .inv .read) (c .before .before .loop-test .left) (ap₂ (λ (a b : Bool). a || b) (c .before .if3 .left) (c .if4 .taken))
 
--- src/whole.rt:58:25
 cast-t30 : tie.Need-cast-t30 Inv-loop μ-loop
 cast-t30 c =
     let v = c .before .before .before .loop .inv in
@@ -228,7 +201,6 @@ cast-t30 c =
     let few = v .read .few in
     omega arith
 
--- src/whole.rt:15:1
 returns-6 : tie.Need-returns-6 Inv-loop μ-loop
 returns-6 c =
     read-missing _ _ _ _ (c .before .before .before .loop .inv .read) (c .before .before .loop-test .left) (ap₂ (λ (a b : Bool). a || b) (c .before .if3 .left) (c .if4 .left))

@@ -12,36 +12,30 @@ use borrow.Author.Needs.{needs}
 use Rattle.reading.proofs.draft.read_draft.Statement.{statement}
 use Rattle.reading.proofs.draft.read_draft.Tie as tie
 
--- src/draft.rt:14:9
 header-requires : tie.Need-header-requires
 header-requires c κs = search needs
 
--- src/draft.rt:16:9
 returns : tie.Need-returns
 returns c = c .refused .ensures ∙ header-stops false _ (c .before .before .header .ensures) (c .before .if1 .taken)
 
--- src/draft.rt:18:9
 two-requires : tie.Need-two-requires
 two-requires c κs =
     let d = c .before .before .before .args .draft .now in
     let l = header-lengths false d (c .before .header .ensures) (c .if1 .left) in
     omega (arith, l .front)
 
--- src/draft.rt:19:17
 slice-aggregate-sections-of : tie.Need-slice-aggregate-sections-of
 slice-aggregate-sections-of c =
     let d = c .before .before .before .before .before .args .draft .now in
     let l = header-lengths false d (c .before .before .before .header .ensures) (c .before .before .if1 .left) in
     sym (length-take-le _ d (omega (arith, l .within, c .before .two .ensures .0)))
 
--- src/draft.rt:19:30
 shared-slice-read-sections-of : tie.Need-shared-slice-read-sections-of
 shared-slice-read-sections-of c =
     let d = c .before .before .before .before .before .before .args .draft .now in
     let l = header-lengths false d (c .before .before .before .before .header .ensures) (c .before .before .before .if1 .left) in
     omega (arith, l .front)
 
--- src/draft.rt:19:5
 sections-of-requires : tie.Need-sections-of-requires
 sections-of-requires c κs =
     let d = c .before .before .before .before .before .before .args .draft .now in
@@ -50,7 +44,6 @@ sections-of-requires c κs =
     let m = length-take-le (c .before .before .two .result) d (omega (arith, l .within, n)) in
     (omega (arith, m, n, l .least), omega (arith, m, n, l .most))
 
--- src/draft.rt:11:1
 returns-2 : tie.Need-returns-2
 returns-2 c =
     let d = c .before .before .before .before .before .before .before .args .draft .now in
