@@ -12,7 +12,7 @@ use std::process::{Command, Output};
 use std::thread::sleep;
 use std::time::Duration;
 
-const SOURCE: &str = "crates/read_fields/src/page.rt";
+const SOURCE: &str = "crates/read_characters/src/page.rt";
 
 /// The script of this folder, started in another.
 fn page(folder: &Path) -> Command {
@@ -120,7 +120,7 @@ fn it_is_one_sheet() {
 /// The script and its page in a folder of their own, the page changed.
 fn changed(name: &str, change: impl Fn(&str) -> String) -> Folder {
     let folder = Folder::new(name);
-    create_dir_all(folder.0.join("crates/read_fields/src")).expect("a folder can be made");
+    create_dir_all(folder.0.join("crates/read_characters/src")).expect("a folder can be made");
     copy(project().join("page"), folder.0.join("page")).expect("the script can be copied");
     let text = read_to_string(project().join(SOURCE)).expect("the page");
     write(folder.0.join(SOURCE), change(&text)).expect("a file can be written");
@@ -186,7 +186,7 @@ fn from_anywhere() {
     for name in ["two words", "-dash", "plain"] {
         let folder = Folder::new("anywhere");
         let own = folder.0.join(name);
-        create_dir_all(own.join("crates/read_fields/src")).expect("a folder can be made");
+        create_dir_all(own.join("crates/read_characters/src")).expect("a folder can be made");
         for file in ["page", SOURCE] {
             copy(project().join(file), own.join(file)).expect("a file can be copied");
         }

@@ -1,11 +1,6 @@
-pub mod Classes
 pub mod Days
-pub mod Entries
 pub mod Exponents
 pub mod Lists
 pub mod Numbers
 pub mod Order
-pub mod Ranks
-pub mod Runs
 pub mod Sizes
-pub mod Templates

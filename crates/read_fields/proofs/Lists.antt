@@ -9,9 +9,15 @@ use lib.ListN.{length, getD, take, drop, length-drop}
 use lib.Seq.{drop-cons, length-take-le, take-add, take-take, drop-drop, drop-at, getD-take, getD-drop, take-all}
 use lib.Dec.{eqb}
 use lib.Bits.{bitOr, or-zero-l, or-add-and, and-le-r}
-use mathlib.Core.Bool.{Bool, _&&_, and-assoc}
+use mathlib.Core.Bool.{Bool, true, false, _&&_, and-assoc}
+use mathlib.Core.Logic.{_⊎_, inl, inr}
 use borrow.Author.Tests.{ne-eqb}
 use Rattle.format.specs.Bytes.{Bytes, numberFrom, number, bytesAt, allZero}
+
+-- a test passes or does not
+pub yes-or-no : (t : Bool) → (t ≡ true) ⊎ (t ≡ false)
+yes-or-no true = inl refl
+yes-or-no false = inr refl
 
 -- ---- bytes one by one
 

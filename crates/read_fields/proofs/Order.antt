@@ -12,8 +12,7 @@ use lib.Seq.{take-all, drop-cons}
 use borrow.Author.Tests.{lt-ltb, le-ltb, ltb-true, ltb-false, eqb-true, eqb-false}
 use Rattle.format.specs.Bytes.{Bytes, number, bytesAt, allZero}
 use Rattle.format.proofs.Numbers.{bytes-drop}
-use Rattle.read_fields.proofs.Lists.{bytes-all, number-first, number-below, number-join, zero-number}
-use Rattle.read_fields.proofs.Classes.{yes-or-no}
+use Rattle.read_fields.proofs.Lists.{yes-or-no, bytes-all, number-first, number-below, number-join, zero-number}
 
 -- ---- two lists of one length
 

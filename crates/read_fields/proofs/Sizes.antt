@@ -15,9 +15,8 @@ use Rattle.format.specs.Bytes.{Bytes, number, bytesAt}
 use Rattle.format.specs.Forms.{odd, significantBits, modulusForm}
 use Rattle.format.proofs.Finding.{and-split}
 use Rattle.format.proofs.Numbers.{bytes-take, bytes-drop}
-use Rattle.read_fields.proofs.Lists.{bytes-all, number-first, number-below}
+use Rattle.read_fields.proofs.Lists.{yes-or-no, bytes-all, number-first, number-below}
 use Rattle.read_fields.proofs.Numbers.{number-more}
-use Rattle.read_fields.proofs.Classes.{yes-or-no}
 
 -- ---- every byte is below 256
 

@@ -1,9 +1,7 @@
-// Internal: the readings of single fields. Each asks that its bytes are there, and that what is lent as the page of characters
-// is it. Numbers stand here, characters, their page, dates and keys in modules of their own.
-pub mod characters; // characters.rt: characters, Rule IDs, label templates
+// Internal: the readings of single fields, but those of characters. Each asks that its bytes are there. Numbers stand here, dates
+// and keys in modules of their own.
 pub mod dates; // dates.rt: dates that exist, and their order
 pub mod keys; // keys.rt: lengths of keys, the modulus and the exponent of the public key
-pub mod page; // page.rt: the page of characters
 
 ghost use mathlib.Core.Path.{_≡_};
 ghost use Prim.Native.Nat.{_+_, _<_, _≤_};

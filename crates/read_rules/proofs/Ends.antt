@@ -73,11 +73,11 @@ module _ {s : List ℕ} {p e q n : ℕ} {places : List ℕ} (full x : Bool) (w :
       (sym (w .same x) ∙ ap (λ (a : ℕ). subsectionsFrom x rule (w .done) q a (drop q s)) zero ∙ subs-none x rule (w .done) q (drop q s))
 
   -- The rule is refused with 18 at the m of its 0005 where the mask is too short.
-  pub ends-masked : maskCovers (w .done) ≡ false → Refused 18 (getD places 5 0 + 8) ≡ asAnswer sectionRows (sectionRest full x rule p (drop p s))
+  pub ends-masked : maskCovers (w .done) ≡ false → Refused 18 (getD places 0x0005 0 + 8) ≡ asAnswer sectionRows (sectionRest full x rule p (drop p s))
   unfolding asAnswer need
   ends-masked b =
       let o = w .once tokenParameters refl in
-      let stands : placeOf tokenParameters (p + 20) (w .done) ≡ getD places 5 0 = o .stands ∙ here-one (getD places 5 0) q (mask-stands s (w .done) (getD places 5 0) (o .parts) b) in
+      let stands : placeOf tokenParameters (p + 20) (w .done) ≡ getD places 0x0005 0 = o .stands ∙ here-one (getD places 0x0005 0) q (mask-stands s (w .done) (getD places 0x0005 0) (o .parts) b) in
       ap (λ (i : ℕ). Refused 18 (i + 8)) (sym stands) ∙ sym (ap (asAnswer sectionRows) rule-end ∙ rw b)
 
   -- It is refused with 20 where the 0003 is missing that it requires.

@@ -29,13 +29,13 @@ use Rattle.read_rules.proofs.Places.{once-none, once-other, once-here}
 -- ---- tags
 
 -- The last of the tags of a rule.
-pub tag-five : (t : ℕ) → (t ≡ 0 → ⊥) → t ≤ 5 → (t ≡ 1 → ⊥) → ((t ≡ 2) ⊎ (t ≡ 4) → ⊥) → (t ≡ 3 → ⊥) → t ≡ 5
+pub tag-five : (t : ℕ) → (t ≡ 0 → ⊥) → t ≤ 0x0005 → (t ≡ 0x0001 → ⊥) → ((t ≡ 0x0002) ⊎ (t ≡ 0x0004) → ⊥) → (t ≡ 0x0003 → ⊥) → t ≡ 0x0005
 tag-five t z h a b c =
-    let two : t ≡ 2 → ⊥ = λ e. b (inl e) in
-    let four : t ≡ 4 → ⊥ = λ e. b (inr e) in
+    let two : t ≡ 0x0002 → ⊥ = λ e. b (inl e) in
+    let four : t ≡ 0x0004 → ⊥ = λ e. b (inr e) in
     omega arith
 
--- Every tag is below 6.
+-- Every tag is below 0006.
 pub tag-below : (k : Kind) → tag k < 0x0006
 tag-below k = ltb-true (tag k) 0x0006 (every-kind (λ j. ltb (tag j) 0x0006) refl k)
 

@@ -7,7 +7,7 @@ ghost use lib.ListN.{length, drop};
 ghost use Rattle.format.specs.Parts.{rule, exportParameters, tokenParameters, Part};
 ghost use Rattle.format.specs.Rules.{longest, has, ofKind, maskCovers, hasRequired};
 ghost use Rattle.format.specs.Reading.{stated, asAnswer, sectionRest};
-ghost use Rattle.read_fields.specs.Page.{Page};
+ghost use Rattle.read_characters.specs.Page.{Page};
 ghost use Rattle.read_sections.specs.Refusals.{subRefusal, sectionRows};
 ghost use Rattle.read_rules.specs.Loops.{Marked, Within, standing, ruleOf};
 use format::Answer;

@@ -10,7 +10,7 @@ ghost use Rattle.format.specs.declared.Answer.the-variants.{Accepted};
 ghost use Rattle.read_sections.specs.Refusals.{sectionRows, unless};
 ghost use Rattle.read_token.specs.Progress.{Marked};
 use format::Answer;
-use read_sections::information::information_at;
+use read_information::information_at;
 use read_sections::plain::application_data_at;
 use read_sections::plain::name_at;
 use read_sections::public_key::public_key_at;

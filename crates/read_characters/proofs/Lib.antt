@@ -1,0 +1,5 @@
+pub mod Classes
+pub mod Entries
+pub mod Ranks
+pub mod Runs
+pub mod Templates
