@@ -73,7 +73,7 @@ fn a_name_tells_the_family_and_whether_it_is_internal() {
         let begins = family.as_ref().is_some_and(|start| name.starts_with(start));
         let right = match first.as_str() {
             "Internal:" => begins,
-            "Public:" => !begins || name.starts_with("add_"),
+            "Public:" => !begins || name.starts_with("add_") || name.starts_with("trusted_block_"),
             "Program:" => true,
             _ => false,
         };
