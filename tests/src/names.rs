@@ -4,6 +4,7 @@
 mod declared;
 mod words;
 
+use crate::kinds::ALL;
 use declared::declares;
 use std::fs::read_dir;
 use std::path::Path;
@@ -48,6 +49,16 @@ fn in_list_of_crates(words: &[Word], at: usize) -> bool {
     }
     let name = words[at - 2].text.strip_prefix("crates/");
     name.is_some_and(|name| !name.contains('/')) || in_list_of_crates(words, at - 2)
+}
+
+/// The number of a kind, such as 12/0001: two digits of an id, four of a tag.
+fn kind(text: &str) -> Option<u32> {
+    let (id, tag) = text.split_once('/')?;
+    let number = |digits: &str| u32::from_str_radix(digits, 16).ok();
+    match (id.len(), tag.len()) {
+        (2, 4) => Some(number(id)? * 0x1_0000 + number(tag)?),
+        _ => None,
+    }
 }
 
 impl<'a> Check<'a> {
@@ -108,8 +119,8 @@ impl<'a> Check<'a> {
     /// No name, a kind such as 12/0001, a path, a family of crates or a call
     /// for C; false for anything else.
     fn known(&mut self, text: &str) -> bool {
-        if text.chars().all(|c| c.is_ascii_digit() || c == '/') {
-            return true;
+        if let Some(kind) = kind(text) {
+            self.need(ALL.contains(&kind), format!("{text}: no such kind"));
         } else if is_path(text) {
             self.path(text);
         } else if text.ends_with('_') {
