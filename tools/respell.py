@@ -12,8 +12,9 @@ import glob
 import re
 import sys
 
-HEAD = re.compile(r"^((?:(?:abbrev|unfoldable|pub|data|record|mutual|ruleset)\s+)*)([^\s:(){}]+)((?:\s*(?:\(.*?\)|\{.*?\}))*)\s*:\s(.*)$")
-FIELD = re.compile(r"^\s+(?:pub\s+)?([^\s:(){}]+)\s*:\s")
+HEAD = re.compile(r"^\s*((?:(?:abbrev|unfoldable|pub|data|record|mutual|ruleset)\s+)*)([^\s:(){}]+)((?:\s*(?:\(.*?\)|\{.*?\}))*)\s*:(?:\s(.*))?$")
+FIELD = re.compile(r"^\s+(?:pub\s+)?([^\s:(){}]+(?: [^\s:(){}]+)*)\s*:\s")
+LET = re.compile(r"\blet ([a-z][a-z0-9]*[A-Z]\w*) =")
 WORD = r"[^\s(){}\[\].;,\"«»`|/:*]+"
 SKIP = ("--", "use ", "mod ", "pub mod", "open ")
 # Names that would fall together with a parameter or a module, and what they are called instead.
@@ -47,15 +48,21 @@ def declared():
             if m:
                 names.add(m.group(2))
                 words = m.group(1).split()
+                if l.startswith(" ") and not words and not re.search("-|[a-z0-9][A-Z]", m.group(2)):
+                    names.update([m.group(2)] if body else [])
+                    continue
+                if l.startswith(" ") and body:
+                    continue
                 body = "data" in words or "record" in words
-                rest = m.group(4)
+                rest = m.group(4) or ""
                 ends = re.sub(r"\([^()]*\)", "()", re.sub(r"\([^()]*\)", "()", rest))
                 if "data" not in words and "record" not in words and re.search(r"(?:^|→\s*)Type \d\s*$", ends):
                     facts.add(m.group(2))
                 continue
             m = FIELD.match(l)
             if m and body:
-                names.add(m.group(1))
+                names.update(m.group(1).split())
+            names.update(LET.findall(l))
             if l and not l.startswith((" ", "\t")):
                 body = False
     return names, facts

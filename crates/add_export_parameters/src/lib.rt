@@ -1,7 +1,9 @@
 // Public: the addition of 12/0003, the export parameters, to the last section of a lent draft. It tests the lengths of what it
 // is lent, makes the subsection's bytes in an array of its own and adds them. The call asks nothing.
+#![tactic(auto)]
+
 ghost use Rattle.std.specs.Prelude.{◌≡◌};
-ghost use Rattle.format.specs.Parts.{exportParameters};
+ghost use Rattle.format.specs.Parts.{export_parameters};
 ghost use Rattle.format.specs.Writer.{write_answer, draft_after, addition, export_fields};
 
 use format::Answer;
@@ -18,8 +20,8 @@ pub fn export_parameters(
     variant: &[u8],
     vector: &[u8],
 ) -> Answer
-    ensures answer { result ≡ write_answer (addition exportParameters (export_fields minimum maximum variant.now vector.now) draft.old) }
-    ensures draft { draft.new ≡ draft_after (addition exportParameters (export_fields minimum maximum variant.now vector.now) draft.old) draft.old }
+    ensures answer { result ≡ write_answer (addition export_parameters (export_fields minimum maximum variant.now vector.now) draft.old) }
+    ensures draft { draft.new ≡ draft_after (addition export_parameters (export_fields minimum maximum variant.now vector.now) draft.old) draft.old }
 {
     if 255 < variant.len() || 255 < vector.len() {
         return not_fitting(draft);

@@ -2,6 +2,8 @@
 // was lent, and then written where it is to stand, so that its bytes are copied once. The calls ask nothing.
 // All contracts of the calls are one but for the kind and its fields: the answer is `write_answer (addition KIND FIELDS draft)`,
 // and the draft then holds `draft_after` of the same.
+#![tactic(auto)]
+
 ghost use Rattle.std.specs.Prelude.{◌≡◌, ◌∷◌, [], ◌+◌, ◌≤◌, length};
 ghost use Rattle.format.specs.Layout.{write};
 ghost use Rattle.format.specs.Parts as Parts;
@@ -28,7 +30,7 @@ fn put_key(
     flags: u32,
 ) -> usize
     requires { (n ≡ 16 + length exponent.now + length modulus.now) × (at + n ≤ length draft.old) × (at + n ≤ longest) }
-    ensures { Stored draft.old at (write n (Parts.layout Parts.publicKey) (public_key_fields modulus_bits exponent.now modulus.now flags)) draft.new result }
+    ensures { Stored draft.old at (write n (Parts.layout Parts.public_key) (public_key_fields modulus_bits exponent.now modulus.now flags)) draft.new result }
 {
     let zeros_at = section_head(draft, at, 0x11, n);
     let exponent_count_at = put_two(draft, zeros_at, 0);
@@ -48,8 +50,8 @@ pub fn public_key(
     modulus: &[u8],
     flags: u32,
 ) -> Answer
-    ensures answer { result ≡ write_answer (addition Parts.publicKey (public_key_fields modulus_bits exponent.now modulus.now flags) draft.old) }
-    ensures draft { draft.new ≡ draft_after (addition Parts.publicKey (public_key_fields modulus_bits exponent.now modulus.now flags) draft.old) draft.old }
+    ensures answer { result ≡ write_answer (addition Parts.public_key (public_key_fields modulus_bits exponent.now modulus.now flags) draft.old) }
+    ensures draft { draft.new ≡ draft_after (addition Parts.public_key (public_key_fields modulus_bits exponent.now modulus.now flags) draft.old) draft.old }
 {
     if 65535 < exponent.len() {
         return not_fitting(draft);
@@ -75,8 +77,8 @@ pub fn public_key(
 
 // Section 15, the application data: any bytes.
 pub fn application_data(draft: &mut [u8], data: &[u8]) -> Answer
-    ensures answer { result ≡ write_answer (addition Parts.applicationData («data».now ∷ []) draft.old) }
-    ensures draft { draft.new ≡ draft_after (addition Parts.applicationData («data».now ∷ []) draft.old) draft.old }
+    ensures answer { result ≡ write_answer (addition Parts.application_data («data».now ∷ []) draft.old) }
+    ensures draft { draft.new ≡ draft_after (addition Parts.application_data («data».now ∷ []) draft.old) draft.old }
 {
     if 65535 < data.len() {
         return not_fitting(draft);

@@ -2,6 +2,8 @@
 // lengths of what it is lent, makes the subsection's bytes in an array of its own and adds them. The calls ask nothing.
 // All contracts here are one but for the kind and its fields: the answer is `write_answer (addition KIND FIELDS draft)`, and
 // the draft then holds `draft_after` of the same.
+#![tactic(auto)]
+
 ghost use Rattle.std.specs.Prelude.{◌≡◌, [], ◌∷◌};
 ghost use Rattle.format.specs.Parts as Parts;
 ghost use Rattle.format.specs.Writer.{write_answer, draft_after, addition, date_fields};

@@ -1,7 +1,9 @@
 // Public: the addition of 12/0005, the token parameters, to the last section of a lent draft. It tests the lengths of what it
 // is lent, makes the subsection's bytes in an array of its own and adds them. The call asks nothing.
+#![tactic(auto)]
+
 ghost use Rattle.std.specs.Prelude.{◌≡◌, [], ◌∷◌};
-ghost use Rattle.format.specs.Parts.{tokenParameters};
+ghost use Rattle.format.specs.Parts.{token_parameters};
 ghost use Rattle.format.specs.Writer.{write_answer, draft_after, addition};
 
 use format::Answer;
@@ -17,8 +19,8 @@ pub fn token_parameters(
     template: &[u8],
     label_template: &[u8],
 ) -> Answer
-    ensures answer { result ≡ write_answer (addition tokenParameters (mask.now ∷ template.now ∷ label_template.now ∷ []) draft.old) }
-    ensures draft { draft.new ≡ draft_after (addition tokenParameters (mask.now ∷ template.now ∷ label_template.now ∷ []) draft.old) draft.old }
+    ensures answer { result ≡ write_answer (addition token_parameters (mask.now ∷ template.now ∷ label_template.now ∷ []) draft.old) }
+    ensures draft { draft.new ≡ draft_after (addition token_parameters (mask.now ∷ template.now ∷ label_template.now ∷ []) draft.old) draft.old }
 {
     if 255 < mask.len() || template.len() != mask.len() || 255 < label_template.len() {
         return not_fitting(draft);

@@ -3,8 +3,10 @@
 // array of its own and adds them. The calls ask nothing.
 // All contracts here are one but for the kind and its fields: the answer is `write_answer (addition KIND FIELDS draft)`, and
 // the draft then holds `draft_after` of the same.
+#![tactic(auto)]
+
 ghost use Rattle.std.specs.Prelude.{◌≡◌, [], ◌∷◌};
-ghost use Rattle.format.specs.Parts.{Kind, transportVariant, transportRule, sourceRule};
+ghost use Rattle.format.specs.Parts.{Kind, transport_variant, transport_rule, source_rule};
 ghost use Rattle.format.specs.Writer.{write_answer, draft_after, addition};
 ghost use Rattle.add_variant_and_references.specs.References.{NamesRule};
 
@@ -16,8 +18,8 @@ use write_subsection::add_subsection;
 
 // Adds 12/0001, the transport variant.
 pub fn transport_variant(draft: &mut [u8], variant: &[u8]) -> Answer
-    ensures answer { result ≡ write_answer (addition transportVariant (variant.now ∷ []) draft.old) }
-    ensures draft { draft.new ≡ draft_after (addition transportVariant (variant.now ∷ []) draft.old) draft.old }
+    ensures answer { result ≡ write_answer (addition transport_variant (variant.now ∷ []) draft.old) }
+    ensures draft { draft.new ≡ draft_after (addition transport_variant (variant.now ∷ []) draft.old) draft.old }
 {
     if 255 < variant.len() {
         return not_fitting(draft);
@@ -47,16 +49,16 @@ fn referenced_rule(draft: &mut [u8], tag: u8, rule_id: &[u8]) -> Answer
 
 // Adds 12/0002, the transport rule: its Rule ID.
 pub fn transport_rule(draft: &mut [u8], rule_id: &[u8]) -> Answer
-    ensures answer { result ≡ write_answer (addition transportRule (rule_id.now ∷ []) draft.old) }
-    ensures draft { draft.new ≡ draft_after (addition transportRule (rule_id.now ∷ []) draft.old) draft.old }
+    ensures answer { result ≡ write_answer (addition transport_rule (rule_id.now ∷ []) draft.old) }
+    ensures draft { draft.new ≡ draft_after (addition transport_rule (rule_id.now ∷ []) draft.old) draft.old }
 {
     referenced_rule(draft, 0x0002, rule_id)
 }
 
 // Adds 12/0004, the source rule: its Rule ID.
 pub fn source_rule(draft: &mut [u8], rule_id: &[u8]) -> Answer
-    ensures answer { result ≡ write_answer (addition sourceRule (rule_id.now ∷ []) draft.old) }
-    ensures draft { draft.new ≡ draft_after (addition sourceRule (rule_id.now ∷ []) draft.old) draft.old }
+    ensures answer { result ≡ write_answer (addition source_rule (rule_id.now ∷ []) draft.old) }
+    ensures draft { draft.new ≡ draft_after (addition source_rule (rule_id.now ∷ []) draft.old) draft.old }
 {
     referenced_rule(draft, 0x0004, rule_id)
 }

@@ -9,7 +9,7 @@ use lib.Dec.{eqb, leb}
 use lib.ListN.{length, get_or, drop, replicate}
 use Rattle.format.specs.Bytes.{All, every, Bytes, big_endian, number}
 use Rattle.format.specs.Layout.{Item, code, zeros, own, count, fixed, counted, Fields, write, fits}
-use Rattle.format.specs.Parts.{Kind, exportParameters, tokenParameters, section_id, same_kind, is_subsection, layout, header, Part, size, span, write_parts, written, joins, Choice}
+use Rattle.format.specs.Parts.{Kind, export_parameters, token_parameters, section_id, same_kind, is_subsection, layout, header, Part, size, span, write_parts, written, joins, Choice}
 use Rattle.format.specs.Rules.{checks, Section, front_subs, sections_of, of_kind, may_both_stand, other_kind, mask_covers}
 use Rattle.format.specs.Parts.{external}
 use Rattle.format.specs.Legal.{Pairwise, Lawful}
@@ -118,21 +118,21 @@ fronts (p ∷ ps) qs =
 
 -- What holds of a section's subsections, and of every beginning of them, holds of the sections of a beginning.
 module _ (P : List Part → Type 0) (front : (us vs : List Part) → P (us ++ vs) → P us) where
-  sections-cons : (p : Part) (ps qs : List Part) (b : Bool)
+  sections_cons : (p : Part) (ps qs : List Part) (b : Bool)
       → (All (λ (s : Section). P s.subs) (sections_of (ps ++ qs)) → All (λ (s : Section). P s.subs) (sections_of ps))
       → All (λ (s : Section). P s.subs)
       (elim b as (λ c. List Section) [ true ↦ sections_of (ps ++ qs) | false ↦ record { head = p; subs = front_subs (ps ++ qs) } ∷ sections_of (ps ++ qs) ])
       → All (λ (s : Section). P s.subs)
       (elim b as (λ c. List Section) [ true ↦ sections_of ps | false ↦ record { head = p; subs = front_subs ps } ∷ sections_of ps ])
-  sections-cons p ps qs true ih h = ih h
-  sections-cons p ps qs false ih h =
+  sections_cons p ps qs true ih h = ih h
+  sections_cons p ps qs false ih h =
       let f = fronts ps qs in
       (front (front_subs ps) f.0 (subst P f.1 h.0), ih h.1)
 
   sections_front : (ps qs : List Part) → All (λ (s : Section). P s.subs) (sections_of (ps ++ qs))
       → All (λ (s : Section). P s.subs) (sections_of ps)
   sections_front [] qs h = tt
-  sections_front (p ∷ ps) qs h = sections-cons p ps qs (is_subsection p.kind) (λ k. sections_front ps qs k) h
+  sections_front (p ∷ ps) qs h = sections_cons p ps qs (is_subsection p.kind) (λ k. sections_front ps qs k) h
 
 -- Of two sections only the heads matter.
 abbrev heads : List Section → List Part
@@ -190,11 +190,11 @@ every_map f g h (u ∷ us) e = let s = and_split (f u) (every f us) e in and_joi
 mask_front : (us vs : List Part) → mask_covers (us ++ vs) ≡ true → mask_covers us ≡ true
 mask_front us vs e =
     let covers : List Part → Part → Part → Bool = λ ws p q. leb (number (get_or q.fields 0 [])) (length (get_or p.fields 0 [])) in
-    let a = rw (kind_join tokenParameters us vs) at e in
+    let a = rw (kind_join token_parameters us vs) at e in
     every_map _ _
     (λ p h. or_map (eqb (length (get_or p.fields 0 [])) 0) _ _
-    (λ k. every_front (covers us p) (of_kind exportParameters us) (of_kind exportParameters vs) (rw (kind_join exportParameters us vs) at k)) h)
-    (of_kind tokenParameters us) (every_front _ (of_kind tokenParameters us) (of_kind tokenParameters vs) a)
+    (λ k. every_front (covers us p) (of_kind export_parameters us) (of_kind export_parameters vs) (rw (kind_join export_parameters us vs) at k)) h)
+    (of_kind token_parameters us) (every_front _ (of_kind token_parameters us) (of_kind token_parameters vs) a)
 
 -- A beginning of parts that keep the rules but those of refusal 20 keeps them.
 pub lawful_front : (i : ℕ) (ps qs : List Part) → Lawful i (ps ++ qs) → Lawful i ps

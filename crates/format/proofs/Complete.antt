@@ -20,7 +20,7 @@ use Rattle.format.specs.Reading.{Outcome, refused, found, fault, need, and_then,
 use Rattle.format.specs.Reading.{tested, subsection_checks, subsection, subsections, holds_subs, kind_before, rule_before, section_checks}
 use Rattle.format.specs.Reading.{after_subsections, section_rest, section, sections, parts_of}
 use Rattle.format.proofs.Numbers.{big_endian_length, same_sym}
-use Rattle.format.proofs.Finding.{and_join, or_left, or_right, or_else, every_kind, same_kind_eq, section_kind_told, subsectionKind-told}
+use Rattle.format.proofs.Finding.{and_join, or_left, or_right, or_else, every_kind, same_kind_eq, section_kind_told, subsection_kind_told}
 use Rattle.format.proofs.Fitting.{Fits, part_fits}
 use Rattle.format.proofs.Unique.{size_any, size_pos}
 use Rattle.format.proofs.Tests.{need_passed, then_found, Hold, tests_lead, hold_join, kept_located}
@@ -71,7 +71,7 @@ sub_found x o before at n p r z g new ends small e =
     let i = part_read p (size p) r z f e in
     let framed : Framed true (section_id k) (tag k) (size p) r = subst (λ (y : Bool). Framed y (section_id k) (tag k) (size p) r) g.sub i.0 in
     let told : subsection_kind o (number (bytes_at r 0 2)) ≡ some k =
-    ap (subsection_kind o) framed.0 ∙ subsectionKind-told o k g.sub g.owner in
+    ap (subsection_kind o) framed.0 ∙ subsection_kind_told o k g.sub g.owner in
     let long : stated r ≡ size p = framed.2 in
     let lo = least_le (layout k) (size p) [] p.fields f in
     let sz = size_any (layout k) (size p) 0 p.fields in

@@ -31,10 +31,10 @@ dates_read_is = (refl, (refl, (refl, (refl, (refl, (refl, (refl, (refl, (refl, t
 
 -- The tests of a 14/0002 by the number of its flags; b says whether that is 1.
 module _ (n : ℕ) (p q r : Bool) where
-  kept-or-judged : (b : Bool) → eqb n 1 ≡ b → leb n 1 ≡ true → (not b || p) ≡ true → (not b || q) ≡ true → (not b || r) ≡ true
+  kept_or_judged : (b : Bool) → eqb n 1 ≡ b → leb n 1 ≡ true → (not b || p) ≡ true → (not b || q) ≡ true → (not b || r) ≡ true
       → (n ≡ 0) ⊎ ((n ≡ 1) × (p ≡ true) × (q ≡ true) × (r ≡ true))
-  kept-or-judged true e z f g h = inr (eqb-true n 1 e, f, g, h)
-  kept-or-judged false e z f g h =
+  kept_or_judged true e z f g h = inr (eqb-true n 1 e, f, g, h)
+  kept_or_judged false e z f g h =
       let l = leb-true n 1 z in
       let u = eqb-false n 1 e in
       inl (omega arith)
@@ -44,7 +44,7 @@ pub judged_exactly : (x : Bool) (flags a e : List ℕ)
     ↔ ((number flags ≡ 0)
     ⊎ ((number flags ≡ 1) × (date_exists a ≡ true) × (date_exists e ≡ true) × (in_order a e ≡ true)))
 judged_exactly x flags a e = (
-  (λ h. kept-or-judged (number flags) (date_exists a) (date_exists e) (in_order a e) (eqb (number flags) 1) refl h.0 h.1.0 h.1.1.0 h.1.1.1.0),
+  (λ h. kept_or_judged (number flags) (date_exists a) (date_exists e) (in_order a e) (eqb (number flags) 1) refl h.0 h.1.0 h.1.1.0 h.1.1.1.0),
   go,
 )
   where

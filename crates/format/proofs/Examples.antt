@@ -39,11 +39,11 @@ row_lines n [] = []
 row_lines n (r ∷ rs) = row_line n r ++ row_lines (suc n) rs
 
 -- the listing of the smallest token, line by line
-pub listing-T :
+pub listing_T :
     first_line 0x1E 80 (answer token_t) ++ row_lines 0 (rows parts_t)
     ≡ text "token external 80 bytes 2 rows\n0 14 - 8 72 0 0\n1 14 0001 18 62 0 0\n"
 unfolding answer as_answer reading sections section section_rest after_subsections subsections subsection tested need and_then number bytes_at all_zero same_bytes first_line row_line
-listing-T = refl
+listing_T = refl
 
 -- the table of the token with two rules, lent with room for two numbers more, and what stood in those
 pub table_read : table_after two_rules (replicate 32 9) ≡ two_rules_table ++ (9 ∷ 9 ∷ [])

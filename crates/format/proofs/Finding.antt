@@ -7,8 +7,8 @@ use Prim.Native.Nat.{ℕ, zero, suc, ◌+◌, ◌*◌, ◌<◌}
 use native.Mathlib.Omega.{arith}
 use lib.Dec.{eqb, ltb}
 use borrow.Author.Tests.{eqb-true, eq-eqb, ltb-true, not-true}
-use Rattle.format.specs.Parts.{Kind, publicKey, rule, transportVariant, transportRule, exportParameters}
-use Rattle.format.specs.Parts.{sourceRule, tokenParameters, name, information, protection, dates, applicationData}
+use Rattle.format.specs.Parts.{Kind, public_key, rule, transport_variant, transport_rule, export_parameters}
+use Rattle.format.specs.Parts.{source_rule, token_parameters, name, information, protection, dates, application_data}
 use Rattle.format.specs.Parts.{kinds, section_id, tag, is_subsection, kind_number, same_kind}
 use Rattle.format.specs.Reading.{first_kind, section_kind, subsection_kind}
 
@@ -49,18 +49,18 @@ kind_of n = first_kind (λ k. eqb (kind_number k) n) kinds
 -- Every kind is found by its number.
 kind_of_told : (k : Kind) → kind_of (kind_number k) ≡ some k
 kind_of_told = elim [
-  | publicKey ↦ refl
+  | public_key ↦ refl
   | rule ↦ refl
-  | transportVariant ↦ refl
-  | transportRule ↦ refl
-  | exportParameters ↦ refl
-  | sourceRule ↦ refl
-  | tokenParameters ↦ refl
+  | transport_variant ↦ refl
+  | transport_rule ↦ refl
+  | export_parameters ↦ refl
+  | source_rule ↦ refl
+  | token_parameters ↦ refl
   | name ↦ refl
   | information ↦ refl
   | protection ↦ refl
   | dates ↦ refl
-  | applicationData ↦ refl
+  | application_data ↦ refl
 ]
 
 -- Every kind of the list passes the test.
@@ -69,12 +69,12 @@ each_kind f [] = true
 each_kind f (k ∷ ks) = f k && each_kind f ks
 
 -- A kind that some test finds in a list passes each test that all of the list pass.
-eachKind-found :
+each_kind_found :
     (f g : Kind → Bool) (k : Kind) (ks : List Kind) → each_kind f ks ≡ true → first_kind g ks ≡ some k → f k ≡ true
-eachKind-found f g k [] h e = absurd (let z : ◌≡◌ {A = ℕ} 0 1 = cc in omega arith)
-eachKind-found f g k (j ∷ ks) h e =
+each_kind_found f g k [] h e = absurd (let z : ◌≡◌ {A = ℕ} 0 1 = cc in omega arith)
+each_kind_found f g k (j ∷ ks) h e =
     let p = and_split (f j) (each_kind f ks) h in
-    go (g j) p.0 e (λ q. eachKind-found f g k ks p.1 q)
+    go (g j) p.0 e (λ q. each_kind_found f g k ks p.1 q)
   where
     go :
         (b : Bool) → f j ≡ true → elim b as (λ x. Option Kind) [ true ↦ some j | false ↦ first_kind g ks ] ≡ some k
@@ -84,7 +84,7 @@ eachKind-found f g k (j ∷ ks) h e =
 
 -- A test that the twelve kinds pass, as computing it shows, every kind passes.
 pub every_kind : (f : Kind → Bool) → each_kind f kinds ≡ true → (k : Kind) → f k ≡ true
-every_kind f h k = eachKind-found f (λ j. eqb (kind_number j) (kind_number k)) k kinds h (kind_of_told k)
+every_kind f h k = each_kind_found f (λ j. eqb (kind_number j) (kind_number k)) k kinds h (kind_of_told k)
 
 -- Kinds with the same number are the same.
 pub number_told : (j k : Kind) → kind_number j ≡ kind_number k → j ≡ k
@@ -120,11 +120,11 @@ first_kind_sound f (j ∷ ks) k e = go (f j) refl e (λ q. first_kind_sound f ks
     go false p q i = i q
 
 -- The one kind that passes a test is found by it in a list in which some test finds it.
-firstKind-among :
+first_kind_among :
     (f g : Kind → Bool) (k : Kind) → f k ≡ true → ((j : Kind) → f j ≡ true → j ≡ k)
     → (ks : List Kind) → first_kind g ks ≡ some k → first_kind f ks ≡ some k
-firstKind-among f g k h u [] e = absurd (let z : ◌≡◌ {A = ℕ} 0 1 = cc in omega arith)
-firstKind-among f g k h u (j ∷ ks) e = go (f j) (g j) refl e (λ q. firstKind-among f g k h u ks q)
+first_kind_among f g k h u [] e = absurd (let z : ◌≡◌ {A = ℕ} 0 1 = cc in omega arith)
+first_kind_among f g k h u (j ∷ ks) e = go (f j) (g j) refl e (λ q. first_kind_among f g k h u ks q)
   where
     go :
         (a b : Bool) → f j ≡ a → elim b as (λ x. Option Kind) [ true ↦ some j | false ↦ first_kind g ks ] ≡ some k
@@ -138,9 +138,9 @@ firstKind-among f g k h u (j ∷ ks) e = go (f j) (g j) refl e (λ q. firstKind-
     go false false p q i = i q
 
 -- The one kind that passes a test is found by it.
-firstKind-told :
+first_kind_told :
     (f : Kind → Bool) (k : Kind) → f k ≡ true → ((j : Kind) → f j ≡ true → j ≡ k) → first_kind f kinds ≡ some k
-firstKind-told f k h u = firstKind-among f (λ j. eqb (kind_number j) (kind_number k)) k h u kinds (kind_of_told k)
+first_kind_told f k h u = first_kind_among f (λ j. eqb (kind_number j) (kind_number k)) k h u kinds (kind_of_told k)
 
 -- A kind that is no subsection has the tag 0.
 pub no_tag : (k : Kind) → is_subsection k ≡ false → tag k ≡ 0
@@ -165,9 +165,9 @@ is_section_sound i k e =
     (not-true (is_subsection k) p.0, eqb-true (section_id k) i p.1)
 
 -- A kind that is the subsection with a tag of a section with an id is a subsection and has that id and tag.
-isPartOf-sound :
+is_part_of_sound :
     (i g : ℕ) (k : Kind) → is_part_of i g k ≡ true → (is_subsection k ≡ true) × (section_id k ≡ i) × (tag k ≡ g)
-isPartOf-sound i g k e =
+is_part_of_sound i g k e =
     let p = and_split (is_subsection k) (eqb (section_id k) i && eqb (tag k) g) e in
     let q = and_split (eqb (section_id k) i) (eqb (tag k) g) p.1 in
     (p.0, eqb-true (section_id k) i q.0, eqb-true (tag k) g q.1)
@@ -177,28 +177,28 @@ pub section_kind_sound : (i : ℕ) (k : Kind) → section_kind i ≡ some k → 
 section_kind_sound i k e = is_section_sound i k (first_kind_sound (is_section i) kinds k e)
 
 -- The kind that is found by a tag in a section is a subsection, has that section's id, and has that tag.
-pub subsectionKind-sound :
+pub subsection_kind_sound :
     (o : Kind) (g : ℕ) (k : Kind) → subsection_kind o g ≡ some k
     → (is_subsection k ≡ true) × (section_id k ≡ section_id o) × (tag k ≡ g)
-subsectionKind-sound o g k e = isPartOf-sound (section_id o) g k (first_kind_sound (is_part_of (section_id o) g) kinds k e)
+subsection_kind_sound o g k e = is_part_of_sound (section_id o) g k (first_kind_sound (is_part_of (section_id o) g) kinds k e)
 
 -- Every section is found by its id.
 pub section_kind_told : (k : Kind) → is_subsection k ≡ false → section_kind (section_id k) ≡ some k
 section_kind_told k e =
     let i = section_id k in
     let h = and_join (not (is_subsection k)) (eqb i i) (ap not e) (eq-eqb i i refl) in
-    firstKind-told (is_section i) k h (λ j p.
+    first_kind_told (is_section i) k h (λ j p.
     let q = is_section_sound i j p in
     kind_told j k q.1 (no_tag j q.0 ∙ sym (no_tag k e)))
 
 -- Every subsection is found by its tag in a section of its id.
-pub subsectionKind-told :
+pub subsection_kind_told :
     (o k : Kind) → is_subsection k ≡ true → section_id k ≡ section_id o → subsection_kind o (tag k) ≡ some k
-subsectionKind-told o k e s =
+subsection_kind_told o k e s =
     let i = section_id o in
     let g = tag k in
     let x = and_join (eqb (section_id k) i) (eqb g g) (eq-eqb (section_id k) i s) (eq-eqb g g refl) in
     let h = and_join (is_subsection k) (eqb (section_id k) i && eqb g g) e x in
-    firstKind-told (is_part_of i g) k h (λ j p.
-    let q = isPartOf-sound i g j p in
+    first_kind_told (is_part_of i g) k h (λ j p.
+    let q = is_part_of_sound i g j p in
     kind_told j k (q.1 ∙ sym s) q.2)

@@ -8,8 +8,8 @@ use lib.Dec.{eqb, ltb}
 use lib.ListN.{length, get_or}
 use borrow.Author.Tests.{ltb-true, lt-ltb, eqb-true, eq-eqb}
 use Rattle.format.specs.Layout.{Item, code, zeros, own, count, fixed, counted, Fields, fits}
-use Rattle.format.specs.Parts.{Kind, publicKey, rule, transportVariant, transportRule, exportParameters}
-use Rattle.format.specs.Parts.{sourceRule, tokenParameters, name, information, protection, dates, applicationData}
+use Rattle.format.specs.Parts.{Kind, public_key, rule, transport_variant, transport_rule, export_parameters}
+use Rattle.format.specs.Parts.{source_rule, token_parameters, name, information, protection, dates, application_data}
 use Rattle.format.specs.Parts.{layout}
 use Rattle.format.proofs.Finding.{and_split, and_join, every_kind}
 
@@ -48,28 +48,28 @@ OwnFits t (fixed n ∷ l) = OwnFits t l
 OwnFits t (counted s ∷ l) = OwnFits t l
 
 -- Fields that pass the test fit, where the layout's codes and the length t can be stated.
-fits-Fits :
+fits_Fits :
     (l : List Item) (t : ℕ) (ns : List ℕ) (fs : Fields) → codes_fit l ≡ true → OwnFits t l → fits ns l fs ≡ true
     → Fits t ns l fs
-fits-Fits [] t ns [] c s e = tt
-fits-Fits [] t ns (f ∷ fs) c s e = absurd (let z : ◌≡◌ {A = ℕ} 0 1 = cc in omega arith)
-fits-Fits (code w v ∷ l) t ns fs c s e =
+fits_Fits [] t ns [] c s e = tt
+fits_Fits [] t ns (f ∷ fs) c s e = absurd (let z : ◌≡◌ {A = ℕ} 0 1 = cc in omega arith)
+fits_Fits (code w v ∷ l) t ns fs c s e =
     let p = and_split (ltb v (256 ^ w)) (codes_fit l) c in
-    (ltb-true v (256 ^ w) p.0, fits-Fits l t ns fs p.1 s e)
-fits-Fits (zeros n q ∷ l) t ns fs c s e = fits-Fits l t ns fs c s e
-fits-Fits (own w ∷ l) t ns fs c s e = (s.0, fits-Fits l t ns fs c s.1 e)
-fits-Fits (count w k ∷ l) t ns fs c s e =
+    (ltb-true v (256 ^ w) p.0, fits_Fits l t ns fs p.1 s e)
+fits_Fits (zeros n q ∷ l) t ns fs c s e = fits_Fits l t ns fs c s e
+fits_Fits (own w ∷ l) t ns fs c s e = (s.0, fits_Fits l t ns fs c s.1 e)
+fits_Fits (count w k ∷ l) t ns fs c s e =
     let n : ℕ = length (get_or fs k []) in
     let p = and_split (ltb n (256 ^ w)) (fits (ns ++ (n ∷ [])) l fs) e in
-    (ltb-true n (256 ^ w) p.0, fits-Fits l t (ns ++ (n ∷ [])) fs c s p.1)
-fits-Fits (fixed n ∷ l) t ns [] c s e = absurd (let z : ◌≡◌ {A = ℕ} 0 1 = cc in omega arith)
-fits-Fits (fixed n ∷ l) t ns (f ∷ fs) c s e =
+    (ltb-true n (256 ^ w) p.0, fits_Fits l t (ns ++ (n ∷ [])) fs c s p.1)
+fits_Fits (fixed n ∷ l) t ns [] c s e = absurd (let z : ◌≡◌ {A = ℕ} 0 1 = cc in omega arith)
+fits_Fits (fixed n ∷ l) t ns (f ∷ fs) c s e =
     let p = and_split (eqb (length f) n) (fits ns l fs) e in
-    (eqb-true (length f) n p.0, fits-Fits l t ns fs c s p.1)
-fits-Fits (counted i ∷ l) t ns [] c s e = absurd (let z : ◌≡◌ {A = ℕ} 0 1 = cc in omega arith)
-fits-Fits (counted i ∷ l) t ns (f ∷ fs) c s e =
+    (eqb-true (length f) n p.0, fits_Fits l t ns fs c s p.1)
+fits_Fits (counted i ∷ l) t ns [] c s e = absurd (let z : ◌≡◌ {A = ℕ} 0 1 = cc in omega arith)
+fits_Fits (counted i ∷ l) t ns (f ∷ fs) c s e =
     let p = and_split (eqb (length f) (get_or ns i 0)) (fits ns l fs) e in
-    (eqb-true (length f) (get_or ns i 0) p.0, fits-Fits l t ns fs c s p.1)
+    (eqb-true (length f) (get_or ns i 0) p.0, fits_Fits l t ns fs c s p.1)
 
 -- Fields that fit pass the test.
 pub Fits-fits : (l : List Item) (t : ℕ) (ns : List ℕ) (fs : Fields) → Fits t ns l fs → fits ns l fs ≡ true
@@ -95,20 +95,20 @@ layout_codes k = every_kind (λ j. codes_fit (layout j)) refl k
 -- Every kind states its own length in two bytes.
 layout_own : (t : ℕ) → t < 256 ^ 2 → (k : Kind) → OwnFits t (layout k)
 layout_own t h = elim [
-  | publicKey ↦ (h, tt)
+  | public_key ↦ (h, tt)
   | rule ↦ (h, tt)
-  | transportVariant ↦ (h, tt)
-  | transportRule ↦ (h, tt)
-  | exportParameters ↦ (h, tt)
-  | sourceRule ↦ (h, tt)
-  | tokenParameters ↦ (h, tt)
+  | transport_variant ↦ (h, tt)
+  | transport_rule ↦ (h, tt)
+  | export_parameters ↦ (h, tt)
+  | source_rule ↦ (h, tt)
+  | token_parameters ↦ (h, tt)
   | name ↦ (h, tt)
   | information ↦ (h, tt)
   | protection ↦ (h, tt)
   | dates ↦ (h, tt)
-  | applicationData ↦ (h, tt)
+  | application_data ↦ (h, tt)
 ]
 
 -- The fields of a part of t bytes that pass the test fit its kind's layout.
 pub part_fits : (k : Kind) (t : ℕ) (fs : Fields) → t < 256 ^ 2 → fits [] (layout k) fs ≡ true → Fits t [] (layout k) fs
-part_fits k t fs h e = fits-Fits (layout k) t [] fs (layout_codes k) (layout_own t h k) e
+part_fits k t fs h e = fits_Fits (layout k) t [] fs (layout_codes k) (layout_own t h k) e

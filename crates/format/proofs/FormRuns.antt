@@ -70,21 +70,21 @@ all_spaces (suc n) = all_spaces n
 
 module _ (f : ℕ → Bool) (apart : (b : ℕ) → space b ≡ true → f b ≡ false) where
   -- Spaces begin no run of characters.
-  pub spaces-lead : (ys : List ℕ) → every space ys ≡ true → leading f ys ≡ 0
-  spaces-lead [] p = refl
-  spaces-lead (y ∷ ys) p = none_leads f y ys (apart y (and_split (space y) (every space ys) p).0)
+  pub spaces_lead : (ys : List ℕ) → every space ys ≡ true → leading f ys ≡ 0
+  spaces_lead [] p = refl
+  spaces_lead (y ∷ ys) p = none_leads f y ys (apart y (and_split (space y) (every space ys) p).0)
 
   -- Characters and then spaces are such a field.
-  pub padded-of : (xs ys : List ℕ) → 1 ≤ length xs → every f xs ≡ true → every space ys ≡ true → padded f (xs ++ ys) ≡ true
-  padded-of xs ys h p q =
-      let n = run_joined f xs ys p (spaces-lead ys q) in
+  pub padded_of : (xs ys : List ℕ) → 1 ≤ length xs → every f xs ≡ true → every space ys ≡ true → padded f (xs ++ ys) ≡ true
+  padded_of xs ys h p q =
+      let n = run_joined f xs ys p (spaces_lead ys q) in
       let e : every space (drop (leading f (xs ++ ys)) (xs ++ ys)) ≡ every space ys = ap (λ (k : ℕ). every space (drop k (xs ++ ys))) n ∙ ap (every space) (drop-append_seam xs ys) in
       and_join _ _ (le-leb 1 (leading f (xs ++ ys)) (omega arith)) (e ∙ q)
 
   -- Characters, spaces and then a byte that is no space, nor a character where there are no spaces, begin none.
-  pub padded-not : (xs ys : List ℕ) (c : ℕ) (t : List ℕ) → every f xs ≡ true → every space ys ≡ true → space c ≡ false
+  pub padded_not : (xs ys : List ℕ) (c : ℕ) (t : List ℕ) → every f xs ≡ true → every space ys ≡ true → space c ≡ false
       → (ys ≡ [] → f c ≡ false) → padded f (xs ++ (ys ++ (c ∷ t))) ≡ true → ⊥
-  padded-not xs ys c t p q e k h =
+  padded_not xs ys c t p q e k h =
       let n = run_joined f xs (ys ++ (c ∷ t)) p (stop ys q k) in
       let s = and_split (leb 1 (leading f (xs ++ (ys ++ (c ∷ t))))) (every space (drop (leading f (xs ++ (ys ++ (c ∷ t)))) (xs ++ (ys ++ (c ∷ t))))) h in
       every_not space ys c t e (sym (ap (λ (j : ℕ). every space (drop j (xs ++ (ys ++ (c ∷ t))))) n ∙ ap (every space) (drop-append_seam xs (ys ++ (c ∷ t)))) ∙ s.1)
@@ -94,9 +94,9 @@ module _ (f : ℕ → Bool) (apart : (b : ℕ) → space b ≡ true → f b ≡ 
       stop (z ∷ zs) q k = none_leads f z (zs ++ (c ∷ t)) (apart z (and_split (space z) (every space zs) q).0)
 
   -- Bytes without a character in front begin none.
-  pub no-character : (bs t : List ℕ) → 1 ≤ length bs → leading f bs ≡ 0 → padded f (take 1 bs ++ t) ≡ true → ⊥
-  no-character [] t h z p = omega arith
-  no-character (b ∷ bs) t h z p =
+  pub no_character : (bs t : List ℕ) → 1 ≤ length bs → leading f bs ≡ 0 → padded f (take 1 bs ++ t) ≡ true → ⊥
+  no_character [] t h z p = omega arith
+  no_character (b ∷ bs) t h z p =
       let e : f b ≡ false = ap (λ (i : ℕ). f (get_or (b ∷ bs) i 0)) (sym z) ∙ run_ends f (b ∷ bs) (omega arith) in
       let s = and_split (leb 1 (leading f (b ∷ t))) (every space (drop (leading f (b ∷ t)) (b ∷ t))) p in
       let n = none_leads f b t e in
@@ -111,11 +111,11 @@ module _ (f : ℕ → Bool) (apart : (b : ℕ) → space b ≡ true → f b ≡ 
     abbrev blanks : List ℕ
     blanks = take (leading space (drop (leading f bs) bs)) (drop (leading f bs) bs)
 
-    chars-length : length chars ≡ leading f bs
-    chars-length = length-take-le (leading f bs) bs (run_within f bs)
+    chars_length : length chars ≡ leading f bs
+    chars_length = length-take-le (leading f bs) bs (run_within f bs)
 
-    blanks-length : length blanks ≡ leading space (drop (leading f bs) bs)
-    blanks-length = length-take-le _ (drop (leading f bs) bs) (run_within space (drop (leading f bs) bs))
+    blanks_length : length blanks ≡ leading space (drop (leading f bs) bs)
+    blanks_length = length-take-le _ (drop (leading f bs) bs) (run_within space (drop (leading f bs) bs))
 
     -- Up to its place a field with a character goes on with spaces.
     pub goes_on : (k : ℕ) → 1 ≤ leading f bs → padded f (take (leading f bs + leading space (drop (leading f bs) bs)) bs ++ replicate k 0x20) ≡ true
@@ -123,13 +123,13 @@ module _ (f : ℕ → Bool) (apart : (b : ℕ) → space b ≡ true → f b ≡ 
         let m : ℕ = leading space (drop (leading f bs) bs) in
         ap (λ (z : List ℕ). padded f (z ++ replicate k 0x20)) (take-add (leading f bs) m bs)
         ∙ ap (padded f) (append_assoc chars blanks (replicate k 0x20))
-        ∙ padded-of chars (blanks ++ replicate k 0x20) (omega (arith, chars-length)) (run_passes f bs)
+        ∙ padded_of chars (blanks ++ replicate k 0x20) (omega (arith, chars_length)) (run_passes f bs)
         (every_joined space blanks (replicate k 0x20) (run_passes space (drop (leading f bs) bs)) (all_spaces k))
 
     -- With the byte at its place it goes on with nothing.
-    pub goes-nowhere : (t : List ℕ) → leading f bs + leading space (drop (leading f bs) bs) < length bs
+    pub goes_nowhere : (t : List ℕ) → leading f bs + leading space (drop (leading f bs) bs) < length bs
         → padded f (take (suc (leading f bs + leading space (drop (leading f bs) bs))) bs ++ t) ≡ true → ⊥
-    goes-nowhere t h p =
+    goes_nowhere t h p =
         let a : ℕ = leading f bs in
         let m : ℕ = leading space (drop a bs) in
         let c : ℕ = get_or bs (a + m) 0 in
@@ -139,9 +139,9 @@ module _ (f : ℕ → Bool) (apart : (b : ℕ) → space b ≡ true → f b ≡ 
         ∙ append_assoc (chars ++ blanks) (c ∷ []) t
         ∙ append_assoc chars blanks (c ∷ t) in
         let e = ap space (sym (get_or-drop a bs m 0)) ∙ run_ends space (drop a bs) (omega arith) in
-        padded-not chars blanks c t (run_passes f bs) (run_passes space (drop a bs)) e
+        padded_not chars blanks c t (run_passes f bs) (run_passes space (drop a bs)) e
         (λ q.
-        let z : m ≡ 0 = sym blanks-length ∙ ap length q in
+        let z : m ≡ 0 = sym blanks_length ∙ ap length q in
         ap (λ (i : ℕ). f (get_or bs i 0)) (ap (λ (j : ℕ). a + j) z ∙ add-zero a) ∙ run_ends f bs (omega arith))
         (sym (ap (padded f) same) ∙ p)
 
@@ -150,4 +150,4 @@ module _ (f : ℕ → Bool) (apart : (b : ℕ) → space b ≡ true → f b ≡ 
     reaches_end h e =
         let m : ℕ = leading space (drop (leading f bs) bs) in
         ap (padded f) (sym (take_all (leading f bs + m) bs e) ∙ take-add (leading f bs) m bs)
-        ∙ padded-of chars blanks (omega (arith, chars-length)) (run_passes f bs) (run_passes space (drop (leading f bs) bs))
+        ∙ padded_of chars blanks (omega (arith, chars_length)) (run_passes f bs) (run_passes space (drop (leading f bs) bs))

@@ -87,13 +87,13 @@ abbrev pub Told : Answer → ℕ → ℕ → Type 0 → Type 0 → Type 0
 Told a m s P Q = (P × (answer_numbers a ≡ 0 ∷ s ∷ [])) ⊎ (Q × (answer_numbers a ≡ m ∷ s ∷ []))
 
 module _ (a : Answer) (m s : ℕ) (P Q : Type 0) (h : 22 ≤ m) (not-both : P → Q → ⊥) where
-  at-0 : Told a m s P Q → (number_of a ≡ 0) ↔ P
-  at-0 (inl w) = ((λ e. w.0), λ p. first w.1)
-  at-0 (inr w) = ((λ e. absurd (let n = first w.1 in omega arith)), λ p. absurd (not-both p w.0))
+  at_0 : Told a m s P Q → (number_of a ≡ 0) ↔ P
+  at_0 (inl w) = ((λ e. w.0), λ p. first w.1)
+  at_0 (inr w) = ((λ e. absurd (let n = first w.1 in omega arith)), λ p. absurd (not-both p w.0))
 
-  at-m : Told a m s P Q → (number_of a ≡ m) ↔ Q
-  at-m (inl w) = ((λ e. absurd (let n = first w.1 in omega arith)), λ q. absurd (not-both w.0 q))
-  at-m (inr w) = ((λ e. w.0), λ q. first w.1)
+  at_m : Told a m s P Q → (number_of a ≡ m) ↔ Q
+  at_m (inl w) = ((λ e. absurd (let n = first w.1 in omega arith)), λ q. absurd (not-both w.0 q))
+  at_m (inr w) = ((λ e. w.0), λ q. first w.1)
 
   beside : Told a m s P Q → second_of a ≡ s
   beside (inl w) = second w.1
@@ -110,12 +110,12 @@ pub by_legality : (bs : List ℕ) (a : Answer) (m : ℕ) (s : Legal bs → ℕ) 
     × ((Legal bs → ⊥) → answer_numbers a ≡ answer_numbers (answer bs))
 by_legality bs a m s P Q b h not-both legal own = (
   (
-    (λ e. of-0 e (judged bs b)),
-    λ w. (at-0 a m (s w.0) (P w.0) (Q w.0) h (not-both w.0) (legal w.0)).1 w.1,
+    (λ e. of_0 e (judged bs b)),
+    λ w. (at_0 a m (s w.0) (P w.0) (Q w.0) h (not-both w.0) (legal w.0)).1 w.1,
   ),
   (
-    (λ e. of-m e (judged bs b)),
-    λ w. (at-m a m (s w.0) (P w.0) (Q w.0) h (not-both w.0) (legal w.0)).1 w.1,
+    (λ e. of_m e (judged bs b)),
+    λ w. (at_m a m (s w.0) (P w.0) (Q w.0) h (not-both w.0) (legal w.0)).1 w.1,
   ),
   (λ l. beside a m (s l) (P l) (Q l) h (not-both l) (legal l)),
   λ n. let u = illegal bs b n in ap answer_numbers (own u.0 u.1 ∙ sym (own_answer bs u.0 u.1)),
@@ -127,10 +127,10 @@ by_legality bs a m s P Q b h not-both legal own = (
         let r = fault_number true bs f e in
         (omega (arith, r), omega (arith, r))
 
-    of-0 : number_of a ≡ 0 → Judged bs → (l : Legal bs) × P l
-    of-0 e (inl l) = (l, (at-0 a m (s l) (P l) (Q l) h (not-both l) (legal l)).0 e)
-    of-0 e (inr w) = absurd (let r = low w.0 w.1 in omega (arith, r))
+    of_0 : number_of a ≡ 0 → Judged bs → (l : Legal bs) × P l
+    of_0 e (inl l) = (l, (at_0 a m (s l) (P l) (Q l) h (not-both l) (legal l)).0 e)
+    of_0 e (inr w) = absurd (let r = low w.0 w.1 in omega (arith, r))
 
-    of-m : number_of a ≡ m → Judged bs → (l : Legal bs) × Q l
-    of-m e (inl l) = (l, (at-m a m (s l) (P l) (Q l) h (not-both l) (legal l)).0 e)
-    of-m e (inr w) = absurd (let r = low w.0 w.1 in omega (arith, r))
+    of_m : number_of a ≡ m → Judged bs → (l : Legal bs) × Q l
+    of_m e (inl l) = (l, (at_m a m (s l) (P l) (Q l) h (not-both l) (legal l)).0 e)
+    of_m e (inr w) = absurd (let r = low w.0 w.1 in omega (arith, r))

@@ -14,7 +14,7 @@ use Rattle.format.specs.Bytes.{every, how_many}
 use Rattle.format.specs.Forms.{leading, space, padded, label_form, label_reach, in_label, plain_label, star, digit, one_star}
 use Rattle.format.proofs.Finding.{and_split, and_join}
 use Rattle.format.specs.Claims.{Stops}
-use Rattle.format.proofs.FormRuns.{run_passes, run_within, run_ends, run_joined, none_leads, every_joined, all_spaces, spaces-lead, padded-of, padded-not, no-character}
+use Rattle.format.proofs.FormRuns.{run_passes, run_within, run_ends, run_joined, none_leads, every_joined, all_spaces, spaces_lead, padded_of, padded_not, no_character}
 
 star_not_plain : (b : ℕ) → plain_label b ≡ true → star b ≡ false
 star_not_plain b h = go (star b) refl
@@ -67,7 +67,7 @@ label_of xs ys h p q w b =
     let st : how_many star (take (leading in_label L) L) ≡ how_many star xs = ap (λ (k : ℕ). how_many star (take k L)) n ∙ ap (how_many star) (take-append_seam xs ys) in
     let b₁ = and_split (not (digit (get_or xs 0 0)) && leb (how_many star xs) 1) _ b in
     let b₂ = and_split (not (digit (get_or xs 0 0))) (leb (how_many star xs) 1) b₁.0 in
-    and_join _ _ (and_join _ _ (and_join _ _ (padded-of in_label space_not_label xs ys h p w) (ap (λ (y : ℕ). not (digit y)) first ∙ b₂.0)) (ap (λ (k : ℕ). leb k 1) st ∙ b₂.1))
+    and_join _ _ (and_join _ _ (and_join _ _ (padded_of in_label space_not_label xs ys h p w) (ap (λ (y : ℕ). not (digit y)) first ∙ b₂.0)) (ap (λ (k : ℕ). leb k 1) st ∙ b₂.1))
     (ap₂ (λ (k y : ℕ). eqb k 0 || star (get_or L 0 0) || star y) st (ap (λ (k : ℕ). get_or L (k - 1) 0) n ∙ last) ∙ ap (λ (y : ℕ). eqb (how_many star xs) 0 || star y || star (get_or xs (length xs - 1) 0)) first ∙ b₁.1)
 
 -- What the form says.
@@ -110,29 +110,29 @@ module _ (xs : List ℕ) (c : ℕ) (t : List ℕ) (p : every in_label xs ≡ tru
   abbrev more : List ℕ
   more = take (leading in_label (c ∷ t)) (c ∷ t)
 
-  stars-more : stars_in (xs ++ (c ∷ t)) ≡ how_many star xs + how_many star more
-  stars-more =
+  stars_more : stars_in (xs ++ (c ∷ t)) ≡ how_many star xs + how_many star more
+  stars_more =
       ap (λ (k : ℕ). how_many star (take k (xs ++ (c ∷ t)))) (run_after in_label xs (c ∷ t) p)
       ∙ ap (how_many star) (take-append-add xs (c ∷ t) (leading in_label (c ∷ t)))
       ∙ many_joined xs more
 
   -- A second star.
-  dead-star : how_many star xs ≡ 1 → star c ≡ true → label_form (xs ++ (c ∷ t)) ≡ true → ⊥
-  dead-star one s h =
+  dead_star : how_many star xs ≡ 1 → star c ≡ true → label_form (xs ++ (c ∷ t)) ≡ true → ⊥
+  dead_star one s h =
       let l = (label_says (xs ++ (c ∷ t)) h).1 in
       let m : how_many star more ≡ 1 + how_many star (take (leading in_label t) t) =
       ap (λ (k : ℕ). how_many star (take k (c ∷ t))) (lead_one in_label c t e) ∙ many_star c (take (leading in_label t) t) s in
-      omega (arith, stars-more, l, m)
+      omega (arith, stars_more, l, m)
 
   -- A character behind the star that is not the first.
-  dead-plain : how_many star xs ≡ 1 → 1 ≤ length xs → star (get_or xs 0 0) ≡ false → label_form (xs ++ (c ∷ t)) ≡ true → ⊥
-  dead-plain one h s w =
+  dead_plain : how_many star xs ≡ 1 → 1 ≤ length xs → star (get_or xs 0 0) ≡ false → label_form (xs ++ (c ∷ t)) ≡ true → ⊥
+  dead_plain one h s w =
       let L : List ℕ = xs ++ (c ∷ t) in
       let k : ℕ = leading in_label (c ∷ t) in
       let q = label_says L w in
       let l = q.1 in
-      let none : how_many star more ≡ 0 = omega (arith, stars-more, l) in
-      let st : stars_in L ≡ 1 = omega (arith, stars-more) in
+      let none : how_many star more ≡ 0 = omega (arith, stars_more, l) in
+      let st : stars_in L ≡ 1 = omega (arith, stars_more) in
       let first : star (get_or L 0 0) ≡ false = ap star (get_or-append xs (c ∷ t) 0 0 (omega arith)) ∙ s in
       let one_more = lead_one in_label c t e in
       let i : leading in_label L - 1 ≡ length xs + (k - 1) = omega (arith, run_after in_label xs (c ∷ t) p) in
@@ -156,31 +156,31 @@ module _ (bs : List ℕ) (m : ℕ) (l : m ≤ length bs) (some : 1 ≤ m) (p : e
   gap_length : length gap ≡ leading space (drop m bs)
   gap_length = length-take-le _ (drop m bs) (run_within space (drop m bs))
 
-  body-length : length (take m bs) ≡ m
-  body-length = length-take-le m bs l
+  body_length : length (take m bs) ≡ m
+  body_length = length-take-le m bs l
 
-  with-spaces : (ys : List ℕ) → every space ys ≡ true → label_form (take m bs ++ ys) ≡ true
-  with-spaces ys q = label_of (take m bs) ys (omega (arith, body-length)) p (spaces-lead in_label space_not_label ys q) q b
+  with_spaces : (ys : List ℕ) → every space ys ≡ true → label_form (take m bs ++ ys) ≡ true
+  with_spaces ys q = label_of (take m bs) ys (omega (arith, body_length)) p (spaces_lead in_label space_not_label ys q) q b
 
-  label-ends : m + leading space (drop m bs) < length bs
-  label-ends =
+  label_ends : m + leading space (drop m bs) < length bs
+  label_ends =
       let n : ℕ = m + leading space (drop m bs) in
       ⊎_elim
       (λ (w : length bs - n ≡ 0).
       absurd
       (let c : true ≡ false =
-      sym (ap label_form (sym (take_all n bs (omega arith)) ∙ take-add m (leading space (drop m bs)) bs) ∙ with-spaces gap (run_passes space (drop m bs))) ∙ bad in
+      sym (ap label_form (sym (take_all n bs (omega arith)) ∙ take-add m (leading space (drop m bs)) bs) ∙ with_spaces gap (run_passes space (drop m bs))) ∙ bad in
       let v : ◌≡◌ {A = ℕ} 0 1 = cc in
       omega arith))
       (λ (w : 0 < length bs - n). omega arith) (eq-zero-or-pos (length bs - n))
 
-  label-stops : Stops label_form bs (m + leading space (drop m bs))
-  label-stops =
+  label_stops : Stops label_form bs (m + leading space (drop m bs))
+  label_stops =
       let k : ℕ = leading space (drop m bs) in
       let n : ℕ = m + k in
       let j : ℕ = length bs - n in
       let c : ℕ = get_or bs n 0 in
-      let within = label-ends in
+      let within = label_ends in
       let a = length-append (take n bs) (replicate j 0x20) in
       let r = length-replicate {A = ℕ} j 0x20 in
       let f = length-take-le n bs (omega arith) in
@@ -188,7 +188,7 @@ module _ (bs : List ℕ) (m : ℕ) (l : m ≤ length bs) (some : 1 ≤ m) (p : e
       let made : label_form (take n bs ++ replicate j 0x20) ≡ true =
       ap (λ (z : List ℕ). label_form (z ++ replicate j 0x20)) (take-add m k bs)
       ∙ ap label_form (append_assoc (take m bs) gap (replicate j 0x20))
-      ∙ with-spaces (gap ++ replicate j 0x20) (every_joined space gap (replicate j 0x20) (run_passes space (drop m bs)) (all_spaces j)) in
+      ∙ with_spaces (gap ++ replicate j 0x20) (every_joined space gap (replicate j 0x20) (run_passes space (drop m bs)) (all_spaces j)) in
       let no-space : space c ≡ false = ap space (sym (get_or-drop m bs k 0)) ∙ run_ends space (drop m bs) (omega arith) in (
         within,
         (replicate j 0x20, omega arith, made),
@@ -198,7 +198,7 @@ module _ (bs : List ℕ) (m : ℕ) (l : m ≤ length bs) (some : 1 ≤ m) (p : e
             ∙ append_assoc (take m bs ++ gap) (c ∷ []) t
             ∙ append_assoc (take m bs) gap (c ∷ t) in
             let w : label_form (take m bs ++ (gap ++ (c ∷ t))) ≡ true = sym (ap label_form same) ∙ h in
-            padded-not in_label space_not_label (take m bs) gap c t p (run_passes space (drop m bs)) no-space
+            padded_not in_label space_not_label (take m bs) gap c t p (run_passes space (drop m bs)) no-space
             (λ q. go (in_label c) refl t (sym gap_length ∙ ap length q) no-space (ap (λ (g : List ℕ). label_form (take m bs ++ (g ++ (c ∷ t)))) (sym q) ∙ w))
             (label_says (take m bs ++ (gap ++ (c ∷ t))) w).0,
       )
@@ -211,7 +211,7 @@ module _ (bs : List ℕ) (m : ℕ) (l : m ≤ length bs) (some : 1 ≤ m) (p : e
       go true e t z s h =
           let i : m + leading space (drop m bs) ≡ m = omega arith in
           let g : get_or bs (m + leading space (drop m bs)) 0 ≡ get_or bs m 0 = ap (λ (j : ℕ). get_or bs j 0) i in
-          absurd (dead t (omega (arith, label-ends)) (ap in_label (sym g) ∙ e) (ap space (sym g) ∙ s) (ap (λ (x : ℕ). label_form (take m bs ++ (x ∷ t))) (sym g) ∙ h))
+          absurd (dead t (omega (arith, label_ends)) (ap in_label (sym g) ∙ e) (ap space (sym g) ∙ s) (ap (λ (x : ℕ). label_form (take m bs ++ (x ∷ t))) (sym g) ∙ h))
 
 -- the place, by the star in front
 abbrev place_from : List ℕ → ℕ → ℕ
@@ -258,14 +258,14 @@ module _ (b : ℕ) (rest : List ℕ) (sb : star b ≡ true) (bad : label_form (b
       let st : star (get_or bs₁ m₁ 0) ≡ true = sym (ap (λ (y : Bool). y || star (get_or bs₁ m₁ 0)) no) ∙ e in
       let one : how_many star (take m₁ bs₁) ≡ 1 =
       ap (how_many star) taken₁ ∙ many_star b (take a₁ rest) sb ∙ ap (λ (k : ℕ). 1 + k) (plain_none (take a₁ rest) (run_passes plain_label rest)) in
-      dead-star (take m₁ bs₁) (get_or bs₁ m₁ 0) t chars₁ e one st w
+      dead_star (take m₁ bs₁) (get_or bs₁ m₁ 0) t chars₁ e one st w
 
   star_first : Stops label_form bs₁ (place_from bs₁ 1)
   star_first =
       let v = run_within plain_label rest in
       let no : (eqb (1 + a₁) 0 || digit b) ≡ false = ap₂ (λ (x : Bool) (y : ℕ). x || digit y) (ne_eqb (1 + a₁) 0 (λ z. omega arith)) is in
       subst (λ (y : Bool). Stops label_form bs₁ (elim y as (λ z. ℕ) [ true ↦ 0 | false ↦ m₁ + leading space (drop m₁ bs₁) ])) (sym no)
-      (label-stops bs₁ m₁ (omega arith) (omega arith) chars₁ body₁ dead₁ bad)
+      (label_stops bs₁ m₁ (omega arith) (omega arith) chars₁ body₁ dead₁ bad)
 
 -- The star behind, or none.
 star_cases : (ys : List ℕ)
@@ -295,11 +295,11 @@ module _ (bs : List ℕ) (some : 1 ≤ leading plain_label bs) (nd : digit (get_
   length₂ : length xs₂ ≡ a₂
   length₂ = length-take-le a₂ bs (run_within plain_label bs)
 
-  plain-only : (m : ℕ) → m ≡ a₂ → (m < length bs → star (get_or bs m 0) ≡ false) → Stops label_form bs (m + leading space (drop m bs))
-  plain-only m i q =
+  plain_only : (m : ℕ) → m ≡ a₂ → (m < length bs → star (get_or bs m 0) ≡ false) → Stops label_form bs (m + leading space (drop m bs))
+  plain_only m i q =
       let v = run_within plain_label bs in
       let same : take m bs ≡ xs₂ = ap (λ (k : ℕ). take k bs) i in
-      label-stops bs m (omega arith) (omega arith) (ap (every in_label) same ∙ plain_in xs₂ (run_passes plain_label bs))
+      label_stops bs m (omega arith) (omega arith) (ap (every in_label) same ∙ plain_in xs₂ (run_passes plain_label bs))
       (ap Body same
       ∙ ap₂ (λ (x : ℕ) (k : ℕ). not (digit x) && leb k 1 && (eqb k 0 || star (get_or xs₂ 0 0) || star (get_or xs₂ (length xs₂ - 1) 0))) first₂ none₂
       ∙ ap (λ (y : Bool). not y && true && true) nd)
@@ -307,8 +307,8 @@ module _ (bs : List ℕ) (some : 1 ≤ leading plain_label bs) (nd : digit (get_
       let no : plain_label (get_or bs m 0) ≡ false = ap (λ (k : ℕ). plain_label (get_or bs k 0)) i ∙ run_ends plain_label bs (omega arith) in
       wrong (sym e ∙ ap₂ (λ (x y : Bool). x || y) no (q h))) bad
 
-  star-last : (m : ℕ) → m ≡ a₂ + 1 → a₂ < length bs → star (get_or bs a₂ 0) ≡ true → Stops label_form bs (m + leading space (drop m bs))
-  star-last m i h st =
+  star_last_is : (m : ℕ) → m ≡ a₂ + 1 → a₂ < length bs → star (get_or bs a₂ 0) ≡ true → Stops label_form bs (m + leading space (drop m bs))
+  star_last_is m i h st =
       let c : ℕ = get_or bs a₂ 0 in
       let i' : m ≡ suc a₂ = omega arith in
       let same : take m bs ≡ xs₂ ++ (c ∷ []) = ap (λ (k : ℕ). take k bs) i' ∙ take-suc bs a₂ 0 h in
@@ -322,13 +322,13 @@ module _ (bs : List ℕ) (some : 1 ≤ leading plain_label bs) (nd : digit (get_
       let in_c : in_label c ≡ true = ap in_label (eqb-true c 0x2A st) in
       let chars : every in_label (take m bs) ≡ true =
       ap (every in_label) same ∙ every_joined in_label xs₂ (c ∷ []) (plain_in xs₂ (run_passes plain_label bs)) (and_join (in_label c) true in_c refl) in
-      label-stops bs m (omega arith) (omega arith) chars
+      label_stops bs m (omega arith) (omega arith) chars
       (ap Body same
       ∙ ap₂ (λ (x : ℕ) (k : ℕ). not (digit x) && leb k 1 && (eqb k 0 || star x || star (get_or (xs₂ ++ (c ∷ [])) (length (xs₂ ++ (c ∷ [])) - 1) 0))) first one
       ∙ ap₂ (λ (y z : Bool). not y && true && (z || star (get_or (xs₂ ++ (c ∷ [])) (length (xs₂ ++ (c ∷ [])) - 1) 0))) nd ns
       ∙ last)
       (λ t k e s w.
-      dead-plain (take m bs) (get_or bs m 0) t chars e (ap (how_many star) same ∙ one) (omega (arith, ap length same))
+      dead_plain (take m bs) (get_or bs m 0) t chars e (ap (how_many star) same ∙ one) (omega (arith, ap length same))
       (ap (λ (z : List ℕ). star (get_or z 0 0)) same ∙ ap star first ∙ ns) w) bad
 
 -- No place for a character in front.
@@ -341,7 +341,7 @@ module _ (bs : List ℕ) (h : 1 ≤ length bs) where
           0x41 ∷ replicate (length bs - 1) 0x20,
           omega arith,
           label_of (0x41 ∷ []) (replicate (length bs - 1) 0x20) (omega arith) refl
-              (spaces-lead in_label space_not_label (replicate (length bs - 1) 0x20) (all_spaces (length bs - 1))) (all_spaces (length bs - 1)) refl,
+              (spaces_lead in_label space_not_label (replicate (length bs - 1) 0x20) (all_spaces (length bs - 1))) (all_spaces (length bs - 1)) refl,
         ),
         never,
       )
@@ -371,7 +371,7 @@ module _ (b : ℕ) (rest : List ℕ) (ns : star b ≡ false) (bad : label_form (
       ⊎_elim
       (λ (w : (one_star (drop n₃ bs₃) ≡ 0) × (1 ≤ length (drop n₃ bs₃) → star (get_or (drop n₃ bs₃) 0 0) ≡ false)).
       let z = w.0 in
-      plain-only bs₃ some nd ns bad m₃ (omega arith)
+      plain_only bs₃ some nd ns bad m₃ (omega arith)
       (λ k.
       let i : m₃ ≡ n₃ + 0 = omega arith in
       ap (λ (j : ℕ). star (get_or bs₃ j 0)) i ∙ ap star (sym g) ∙ w.1 (omega arith)))
@@ -379,19 +379,19 @@ module _ (b : ℕ) (rest : List ℕ) (ns : star b ≡ false) (bad : label_form (
       let z = w.0 in
       let k = w.1 in
       let i : leading plain_label bs₃ ≡ n₃ + 0 = omega arith in
-      star-last bs₃ some nd ns bad m₃ (omega arith) (omega arith) (ap (λ (j : ℕ). star (get_or bs₃ j 0)) i ∙ ap star (sym g) ∙ w.2))
+      star_last_is bs₃ some nd ns bad m₃ (omega arith) (omega arith) (ap (λ (j : ℕ). star (get_or bs₃ j 0)) i ∙ ap star (sym g) ∙ w.2))
       (star_cases (drop n₃ bs₃))
 
-  by-chars : (y z : Bool) → eqb n₃ 0 ≡ y → digit b ≡ z
+  by_chars : (y z : Bool) → eqb n₃ 0 ≡ y → digit b ≡ z
       → Stops label_form bs₃ (elim (y || z) as (λ u. ℕ) [ true ↦ 0 | false ↦ m₃ + leading space (drop m₃ bs₃) ])
-  by-chars true z e d =
+  by_chars true z e d =
       let i : leading plain_label bs₃ ≡ 0 = let w = eqb-true n₃ 0 e in omega arith in
       let p : plain_label b ≡ false = ap (λ (j : ℕ). plain_label (get_or bs₃ j 0)) (sym i) ∙ run_ends plain_label bs₃ (omega arith) in
       let q : in_label b ≡ false = ap₂ (λ (u v : Bool). u || v) p ns in
       at_once bs₃ (omega arith)
-      (λ t w. no-character in_label space_not_label bs₃ t (omega arith) (none_leads in_label b rest q) (label_says (b ∷ t) w).0)
-  by-chars false true e d = at_once bs₃ (omega arith) (λ t w. wrong (sym (label_digit (b ∷ t) w) ∙ ap not d))
-  by-chars false false e d = let w = eqb-false n₃ 0 e in behind (omega (arith, w)) d
+      (λ t w. no_character in_label space_not_label bs₃ t (omega arith) (none_leads in_label b rest q) (label_says (b ∷ t) w).0)
+  by_chars false true e d = at_once bs₃ (omega arith) (λ t w. wrong (sym (label_digit (b ∷ t) w) ∙ ap not d))
+  by_chars false false e d = let w = eqb-false n₃ 0 e in behind (omega (arith, w)) d
 
 -- What is before the place of a refused label template is the beginning of a label template of the same length; with the byte
 -- at the place it is the beginning of none.
@@ -402,4 +402,4 @@ label_place (b ∷ rest) h bad = go (star b) refl
   where
     go : (y : Bool) → star b ≡ y → Stops label_form (b ∷ rest) (place_from (b ∷ rest) (elim y as (λ u. ℕ) [ true ↦ 1 | false ↦ 0 ]))
     go true e = star_first b rest e bad
-    go false e = by-chars b rest e bad (eqb (0 + leading plain_label (b ∷ rest)) 0) (digit b) refl refl
+    go false e = by_chars b rest e bad (eqb (0 + leading plain_label (b ∷ rest)) 0) (digit b) refl refl

@@ -7,7 +7,7 @@ use lib.Dec.{eqb, leb, ltb}
 use lib.ListN.{length}
 use Rattle.format.specs.Bytes.{same_bytes}
 use Rattle.format.specs.Layout.{Item, code, zeros, own, count, fixed, counted}
-use Rattle.format.specs.Parts.{Kind, publicKey, kinds, body, layout, same_kind}
+use Rattle.format.specs.Parts.{Kind, public_key, kinds, body, layout, same_kind}
 use Rattle.format.specs.Rules.{Check}
 use Rattle.format.specs.Rules.{checks}
 use Rattle.format.proofs.Finding.{every_kind}
@@ -56,7 +56,7 @@ well_formed k =
     && plain (body k)
     && zeros_first false (body k)
     && named (length (layout k)) cs
-    && (rising 3 (tested_fields cs) || (same_kind publicKey k && same_bytes (tested_fields cs) (4 ∷ 5 ∷ 6 ∷ 8 ∷ 7 ∷ 9 ∷ [])))
+    && (rising 3 (tested_fields cs) || (same_kind public_key k && same_bytes (tested_fields cs) (4 ∷ 5 ∷ 6 ∷ 8 ∷ 7 ∷ 9 ∷ [])))
     && eqb (alike k kinds) 1
 
 pub layouts_sound : (k : Kind) → well_formed k ≡ true

@@ -177,7 +177,7 @@ same_bytes_same_list ts us a b = Runs.same_bytes_same_list ts us a b
 -- "So a run joined from legal tokens has one cutting and one count of rules", the sum over its tokens.
 pub one_count_of_rules : (ts us : List (List ℕ)) (a : All Legal ts) (b : All Legal us) → joined ts ≡ joined us
     → rules_of_all ts a ≡ rules_of_all us b
-one_count_of_rules ts us a b e = Runs.one-count ts us a b e
+one_count_of_rules ts us a b e = Runs.one_count ts us a b e
 
 -- "Its count of rules is the number of its sections 12; a list's is the sum over its tokens."
 pub count_of_rules : (ps : List Part) → rule_count ps ≡ length (of_kind rule ps)
@@ -368,7 +368,7 @@ pub then_24_25_23 : (p : Part) (d : List ℕ) (ss : List Section) → reading fa
     → (leb (stated d + size p) longest && leb (stated d + size p) (length d)) ≡ false
     → addition p.kind p.fields d ≡ refused (fault 23 (stated d) (stated d)))
 then_24_25_23 p d ss e =
-    (Refusing.lengths-first p.kind p.fields d ss e, Refusing.joining-next p.kind p.fields d ss e, Refusing.room-last p.kind p.fields d ss e)
+    (Refusing.lengths_first p.kind p.fields d ss e, Refusing.joining_next p.kind p.fields d ss e, Refusing.room_last p.kind p.fields d ss e)
 
 -- In the paper's numbers: a start or an addition gives 0 and the draft's length, or the refusal's number and place.
 pub writing_in_numbers : (o : Outcome (List ℕ))

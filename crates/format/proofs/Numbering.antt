@@ -13,7 +13,7 @@ use lib.Seq.{drop-drop, drop-append-le, length-take-le}
 use borrow.Author.Tests.{eqb-true, eqb-false, leb-true, leb-false, not-true}
 use Rattle.format.specs.Bytes.{All, number, bytes_at}
 use Rattle.format.specs.Slots.{least}
-use Rattle.format.specs.Parts.{Kind, rule, information, tokenParameters, is_subsection, same_kind, layout, Part, size, external}
+use Rattle.format.specs.Parts.{Kind, rule, information, token_parameters, is_subsection, same_kind, layout, Part, size, external}
 use Rattle.format.specs.Reading.{section_kind, subsection_kind, Fault, fault, Outcome, refused, found, need, and_then, id_of, stated, made_length}
 use Rattle.format.specs.Rules.{Section, check, has, mask_covers, has_required}
 use Rattle.format.specs.Reading.{part_in, part_slots, Test, located, field_checks, tested, subsection_checks, subsection, subsections, kind_before}
@@ -169,27 +169,27 @@ module _ (full : Bool) (z : List ℕ) (e : ℕ) (x : Bool) (o : Kind) (before : 
   sub_front : (k : Kind) → sound 4 (take 1 (SubTests k)) ≡ true
   sub_front k = every_kind (λ j. sound 4 (take 1 (subsection_checks x j (has k before) n r))) refl k
 
-  sub-least : (k : Kind) → sound (least (layout k)) (take 3 (drop 1 (SubTests k))) ≡ true
-  sub-least k = every_kind (λ j. sound (least (layout j)) (take 3 (drop 1 (subsection_checks x j (has k before) n r)))) refl k
+  sub_least : (k : Kind) → sound (least (layout k)) (take 3 (drop 1 (SubTests k))) ≡ true
+  sub_least k = every_kind (λ j. sound (least (layout j)) (take 3 (drop 1 (subsection_checks x j (has k before) n r)))) refl k
 
-  subsection-known : 4 ≤ n → (k : Kind) → Comes (Early full z e) (Ends n r) (tested at (SubTests k) (found (part_in k r)))
+  subsection_known : 4 ≤ n → (k : Kind) → Comes (Early full z e) (Ends n r) (tested at (SubTests k) (found (part_in k r)))
   unfolding tested
-  subsection-known four k =
+  subsection_known four k =
       let same = ap stated there in
       sound_come full z e (Ends n r) at 4 (take 1 (SubTests k)) _ (omega arith) (inl (omega arith)) (sub_front k)
       (λ c.
       let s = and_split (leb (least (layout k)) (stated r)) (leb (stated r) n) c.0 in
       let a = leb-true (least (layout k)) (stated r) s.0 in
       let b = leb-true (stated r) n s.1 in
-      sound_come full z e (Ends n r) at (least (layout k)) (take 3 (drop 1 (SubTests k))) _ (omega arith) (inr (omega arith)) (sub-least k)
+      sound_come full z e (Ends n r) at (least (layout k)) (take 3 (drop 1 (SubTests k))) _ (omega arith) (inr (omega arith)) (sub_least k)
       (λ d.
       let m = eqb-true (made_length k r) (stated r) d.1.1.0 in
       let p = least_pos k in
       fields_come full z e (Ends n r) x k at r _ (omega arith) (omega arith) (λ f. (omega arith, b, part_size k r (omega arith) ∙ m))))
 
-  subsection-comes : Comes (Early full z e) (Ends n r) (subsection x o before at n r)
+  subsection_comes : Comes (Early full z e) (Ends n r) (subsection x o before at n r)
   unfolding subsection
-  subsection-comes =
+  subsection_comes =
       need_comes (Early full z e) (Ends n r) (leb 4 n) (fault 12 at at) _
       (λ v. early_start full z e at 12 (omega arith) (omega arith) (λ y. omega arith) h)
       (λ w. go (leb-true 4 n w) (subsection_kind o (number (bytes_at r 0 2))))
@@ -197,7 +197,7 @@ module _ (full : Bool) (z : List ℕ) (e : ℕ) (x : Bool) (o : Kind) (before : 
       go : 4 ≤ n → (m : Option Kind)
           → Comes (Early full z e) (Ends n r) (elim m as (λ k. Outcome Part) [ none ↦ refused (fault 13 at at) | some k ↦ tested at (SubTests k) (found (part_in k r)) ])
       go four none = early_start full z e at 13 (omega arith) (omega arith) (λ y. omega arith) h
-      go four (some k) = subsection-known four k
+      go four (some k) = subsection_known four k
 
 -- The subsections found end at e at the latest, and each is as long as it states.
 abbrev SubsEnd : List ℕ → ℕ → ℕ → List Part → Type 0
@@ -212,7 +212,7 @@ subsections_come full z e first zero x o before at n r there t h l k s = absurd 
 subsections_come full z e first (suc d) x o before at zero r there t h l k s = (omega arith, s)
 subsections_come full z e first (suc d) x o before at (suc m) r there t h l k s =
     then_comes (Early full z e) (Ends (suc m) r) (SubsEnd z e first) (subsection x o before at (suc m) r) _
-    (subsection-comes full z e x o before at (suc m) r there (omega arith) h l)
+    (subsection_comes full z e x o before at (suc m) r there (omega arith) h l)
     (λ p q.
     let w = sizes_last before p in
     let a = q.0 in
@@ -251,19 +251,19 @@ rest_comes z e full x k at r there h m l w =
     (omega arith) (omega arith) (omega arith) (omega arith) tt)
     (λ us q.
     let bound = q.0 in
-    need_comes (Early full z e) (Inside r) (mask_covers us) (fault 18 (place_of tokenParameters first us) (place_of tokenParameters first us + mask_offset)) _
+    need_comes (Early full z e) (Inside r) (mask_covers us) (fault 18 (place_of token_parameters first us) (place_of token_parameters first us + mask_offset)) _
     (λ v.
     let p = mask_there z first us q.1 v in
     let end = p.1 in
-    early_at full z e (place_of tokenParameters first us) (suc mask_offset) 18 mask_offset (omega arith) (omega arith) (λ y. omega arith) (omega arith) (inr p.0) (omega arith))
+    early_at full z e (place_of token_parameters first us) (suc mask_offset) 18 mask_offset (omega arith) (omega arith) (λ y. omega arith) (omega arith) (inr p.0) (omega arith))
     (λ v. need_comes (Early full z e) (Inside r) (not full || has_required (record { head = part_in k r; subs = us })) (fault 20 at at) _
     (λ y. missing full z e at _ (omega arith) y) (λ y. w)))
 
 -- A section comes to such a refusal or ends within the bytes. Of its bytes four end at e at the latest, and those that it states.
 module _ (z : List ℕ) (e : ℕ) (full x : Bool) (before : List Section) (at : ℕ) (r : List ℕ) (there : r ≡ drop at z) (h : at < e)
     (front : 4 ≤ length r → at + 4 ≤ e) (ends : stated r ≤ length r → at + stated r ≤ e) where
-  section-front : (k : Kind) (seen repeated : Bool) → is_subsection k ≡ false → sound 4 (take 4 (section_checks x k seen repeated r)) ≡ true
-  section-front k seen repeated s =
+  section_front : (k : Kind) (seen repeated : Bool) → is_subsection k ≡ false → sound 4 (take 4 (section_checks x k seen repeated r)) ≡ true
+  section_front k seen repeated s =
       or_else (is_subsection k) _ (every_kind (λ j. is_subsection j || sound 4 (take 4 (section_checks x j seen repeated r))) refl k) s
 
   section_known : 4 ≤ length r → (k : Kind) (seen repeated : Bool) → is_subsection k ≡ false
@@ -272,7 +272,7 @@ module _ (z : List ℕ) (e : ℕ) (full x : Bool) (before : List Section) (at : 
   section_known four k seen repeated sub =
       let same = ap stated there in
       let f = front four in
-      sound_come full z e (Inside r) at 4 (take 4 (section_checks x k seen repeated r)) _ (omega arith) (inl (omega arith)) (section-front k seen repeated sub)
+      sound_come full z e (Inside r) at 4 (take 4 (section_checks x k seen repeated r)) _ (omega arith) (inl (omega arith)) (section_front k seen repeated sub)
       (λ c.
       let s = and_split (leb (least (layout k)) (stated r)) (leb (stated r) (length r)) c.1.0 in
       let a = leb-true (least (layout k)) (stated r) s.0 in
@@ -286,9 +286,9 @@ module _ (z : List ℕ) (e : ℕ) (full x : Bool) (before : List Section) (at : 
       (every_kind (λ j. sound 4 (located (part_slots j r) (check 0 9 (not (same_kind rule k && repeated)) ∷ []))) refl k)
       (λ u. rest_comes z e full x k at r there g m b (omega arith, b)))))
 
-  pub section-comes : Comes (Early full z e) (Inside r) (section full x before at r)
+  pub section_comes : Comes (Early full z e) (Inside r) (section full x before at r)
   unfolding section
-  section-comes =
+  section_comes =
       need_comes (Early full z e) (Inside r) (leb 4 (length r)) (fault 6 at at) _
       (λ v. early_start full z e at 6 (omega arith) (omega arith) (λ y. omega arith) h)
       (λ w. go (leb-true 4 (length r) w) (section_kind (id_of r)) refl)
@@ -316,7 +316,7 @@ sections_come z e (suc d) full x before at [] there t h =
 sections_come z e (suc d) full x before at (b ∷ bs) there t h =
     let r : List ℕ = b ∷ bs in
     then_comes (Early full z e) (Inside r) Anything (section full x before at r) _
-    (section-comes z e full x before at r there (omega arith) (λ q. omega arith) (λ q. omega arith))
+    (section_comes z e full x before at r there (omega arith) (λ q. omega arith) (λ q. omega arith))
     (λ s q.
     let l = length-drop (stated r) r in
     let a = q.0 in

@@ -35,19 +35,19 @@ pub big_endian_inj : (w n m : ℕ) → n < 256 ^ w → m < 256 ^ w → big_endia
 big_endian_inj w n m h k e = sym (number_big_endian w n h) ∙ ap number e ∙ number_big_endian w m k
 
 -- The bytes of a number that was read after another are the bytes of that other and those that were read.
-bigEndian-numberFrom :
+big_endian_number_from :
     (bs : List ℕ) → Bytes bs → (w a : ℕ) → big_endian (w + length bs) (number_from a bs) ≡ big_endian w a ++ bs
-bigEndian-numberFrom [] h w a = rw (add-zero, append-nil)
-bigEndian-numberFrom (b ∷ bs) h w a =
+big_endian_number_from [] h w a = rw (add-zero, append-nil)
+big_endian_number_from (b ∷ bs) h w a =
     let e : w + suc (length bs) ≡ suc w + length bs = omega arith in
     ap (λ (k : ℕ). big_endian k (number_from (a * 256 + b) bs)) e
-    ∙ bigEndian-numberFrom bs h.1 (suc w) (a * 256 + b)
+    ∙ big_endian_number_from bs h.1 (suc w) (a * 256 + b)
     ∙ rw (digits_div a h.0, digits_mod a h.0) (append_assoc (big_endian w a) (b ∷ []) bs)
 
 -- Bytes are those of the number that they state, in their own length.
 pub big_endian_number : (bs : List ℕ) → Bytes bs → big_endian (length bs) (number bs) ≡ bs
 unfolding number
-big_endian_number bs h = rw (zero-add (length bs)) at (bigEndian-numberFrom bs h 0 0)
+big_endian_number bs h = rw (zero-add (length bs)) at (big_endian_number_from bs h 0 0)
 
 -- What bytes state after a number below b is below b times what their length can state.
 number_from_lt : (bs : List ℕ) (a b : ℕ) → Bytes bs → a < b → number_from a bs < b * 256 ^ length bs

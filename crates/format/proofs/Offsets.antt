@@ -11,8 +11,8 @@ use lib.Dec.{eqb}
 use lib.ListN.{length, drop, length-drop, length-take}
 use Rattle.format.specs.Bytes.{All, number, bytes_at}
 use Rattle.format.specs.Forms.{leading, space, in_rule_id, rule_id_form, rule_id_reach, label_form, label_reach}
-use Rattle.format.specs.Parts.{Kind, publicKey, rule, transportVariant, transportRule, exportParameters, sourceRule, tokenParameters}
-use Rattle.format.specs.Parts.{name, information, protection, dates, applicationData}
+use Rattle.format.specs.Parts.{Kind, public_key, rule, transport_variant, transport_rule, export_parameters, source_rule, token_parameters}
+use Rattle.format.specs.Parts.{name, information, protection, dates, application_data}
 use Rattle.format.specs.Reading.{Test, made_length, field_checks}
 use Rattle.format.proofs.FormRuns.{run_within}
 use Rattle.format.proofs.RuleIdPlaces.{rule_id_place}
@@ -65,16 +65,16 @@ label_end r e =
     omega arith
 
 pub fields_inner : (x : Bool) (k : Kind) (r : List ℕ) → Inner (made_length k r) (field_checks x k r)
-fields_inner x publicKey r = (λ e. omega arith, (λ e. omega arith, (λ e. omega arith, (λ e. omega arith, (λ e. omega arith, (λ e. omega arith, (λ e. omega arith, tt)))))))
+fields_inner x public_key r = (λ e. omega arith, (λ e. omega arith, (λ e. omega arith, (λ e. omega arith, (λ e. omega arith, (λ e. omega arith, (λ e. omega arith, tt)))))))
 fields_inner x rule r =
     (λ e. omega (arith, rule_id_inner r 4 e), (λ e. omega arith, (λ e. omega arith, (λ e. omega arith, (λ e. omega arith, (λ e. omega arith, tt))))))
-fields_inner x transportVariant r = (λ e. omega arith, tt)
-fields_inner x transportRule r = (λ e. omega arith, (λ e. omega (arith, rule_id_inner r 6 e), tt))
-fields_inner x exportParameters r = (λ e. omega arith, (λ e. omega arith, (λ e. omega arith, (λ e. omega arith, (λ e. omega arith, (λ e. omega arith, (λ e. omega arith, tt)))))))
-fields_inner x sourceRule r = (λ e. omega arith, (λ e. omega (arith, rule_id_inner r 6 e), tt))
-fields_inner x tokenParameters r = (λ e. omega arith, (λ e. omega arith, (λ e. omega arith, (λ e. omega arith, (λ e. label_end r e, tt)))))
+fields_inner x transport_variant r = (λ e. omega arith, tt)
+fields_inner x transport_rule r = (λ e. omega arith, (λ e. omega (arith, rule_id_inner r 6 e), tt))
+fields_inner x export_parameters r = (λ e. omega arith, (λ e. omega arith, (λ e. omega arith, (λ e. omega arith, (λ e. omega arith, (λ e. omega arith, (λ e. omega arith, tt)))))))
+fields_inner x source_rule r = (λ e. omega arith, (λ e. omega (arith, rule_id_inner r 6 e), tt))
+fields_inner x token_parameters r = (λ e. omega arith, (λ e. omega arith, (λ e. omega arith, (λ e. omega arith, (λ e. label_end r e, tt)))))
 fields_inner x name r = tt
 fields_inner x information r = (λ e. omega arith, (λ e. omega arith, tt))
 fields_inner x protection r = (λ e. omega arith, (λ e. omega arith, tt))
 fields_inner x dates r = (λ e. omega arith, (λ e. omega arith, (λ e. omega arith, (λ e. omega arith, (λ e. omega arith, tt)))))
-fields_inner x applicationData r = tt
+fields_inner x application_data r = tt

@@ -14,8 +14,8 @@ use Rattle.format.specs.Layout.{Fields, Item, code, zeros, own, count, fixed, co
 use Rattle.format.specs.Slots.{least, slots, fields_in, end_of}
 use Rattle.format.proofs.Unique.{size_any}
 use Rattle.format.proofs.Slots.{length_at, end_le}
-use Rattle.format.specs.Parts.{publicKey, rule, transportVariant, transportRule, exportParameters, sourceRule, name, information, protection, dates, applicationData}
-use Rattle.format.specs.Parts.{Kind, tokenParameters, section_id, tag, body, is_subsection, layout, same_kind, Part, size, span, write_parts}
+use Rattle.format.specs.Parts.{public_key, rule, transport_variant, transport_rule, export_parameters, source_rule, name, information, protection, dates, application_data}
+use Rattle.format.specs.Parts.{Kind, token_parameters, section_id, tag, body, is_subsection, layout, same_kind, Part, size, span, write_parts}
 use Rattle.format.specs.Rules.{of_kind, mask_covers}
 use Rattle.format.specs.Reading.{stated, made_length, part_in, place_of, mask_offset}
 use Rattle.format.proofs.Numbers.{big_endian_length}
@@ -73,7 +73,7 @@ sizes_last [] p = omega arith
 sizes_last (q ∷ ps) p = let i = sizes_last ps p in omega arith
 
 -- Without a 0005 no mask is asked.
-pub mask_none : (us : List Part) → of_kind tokenParameters us ≡ [] → mask_covers us ≡ true
+pub mask_none : (us : List Part) → of_kind token_parameters us ≡ [] → mask_covers us ≡ true
 mask_none us e = rw e
 
 -- ---- where 18 points
@@ -82,19 +82,19 @@ wrong : {A : Type 0} → false ≡ true → A
 wrong e = absurd (let v : ◌≡◌ {A = ℕ} 0 1 = cc in omega arith)
 
 -- A 0005 has its m.
-size_mask : (k : Kind) (fs : Fields) → same_kind tokenParameters k ≡ true → mask_offset < size (record { kind = k; fields = fs })
-size_mask tokenParameters fs e = omega arith
-size_mask publicKey fs e = wrong e
+size_mask : (k : Kind) (fs : Fields) → same_kind token_parameters k ≡ true → mask_offset < size (record { kind = k; fields = fs })
+size_mask token_parameters fs e = omega arith
+size_mask public_key fs e = wrong e
 size_mask rule fs e = wrong e
-size_mask transportVariant fs e = wrong e
-size_mask transportRule fs e = wrong e
-size_mask exportParameters fs e = wrong e
-size_mask sourceRule fs e = wrong e
+size_mask transport_variant fs e = wrong e
+size_mask transport_rule fs e = wrong e
+size_mask export_parameters fs e = wrong e
+size_mask source_rule fs e = wrong e
 size_mask name fs e = wrong e
 size_mask information fs e = wrong e
 size_mask protection fs e = wrong e
 size_mask dates fs e = wrong e
-size_mask applicationData fs e = wrong e
+size_mask application_data fs e = wrong e
 
 -- Each of the parts, the first at a place of z, is as long as it states there.
 abbrev pub States : List ℕ → ℕ → List Part → Type 0
@@ -112,19 +112,19 @@ abbrev MaskThere : List ℕ → ℕ → ℕ → Type 0
 MaskThere z at e = (mask_offset < stated (drop at z)) × (at + mask_offset < e)
 
 mask_place : (z : List ℕ) (at : ℕ) (ps : List Part) → States z at ps
-    → MaskThere z (place_of tokenParameters at ps) (at + sizes ps) ⊎ (of_kind tokenParameters ps ≡ [])
+    → MaskThere z (place_of token_parameters at ps) (at + sizes ps) ⊎ (of_kind token_parameters ps ≡ [])
 mask_place z at [] s = inr refl
-mask_place z at (p ∷ ps) s = go (same_kind tokenParameters p.kind) refl (mask_place z (at + size p) ps s.1)
+mask_place z at (p ∷ ps) s = go (same_kind token_parameters p.kind) refl (mask_place z (at + size p) ps s.1)
   where
-    go : (b : Bool) → same_kind tokenParameters p.kind ≡ b
-        → MaskThere z (place_of tokenParameters (at + size p) ps) (at + size p + sizes ps) ⊎ (of_kind tokenParameters ps ≡ [])
-        → MaskThere z (elim b as (λ c. ℕ) [ true ↦ at | false ↦ place_of tokenParameters (at + size p) ps ]) (at + (size p + sizes ps))
-        ⊎ (◌≡◌ {A = List Part} (elim b as (λ c. List Part) [ true ↦ p ∷ of_kind tokenParameters ps | false ↦ of_kind tokenParameters ps ]) [])
+    go : (b : Bool) → same_kind token_parameters p.kind ≡ b
+        → MaskThere z (place_of token_parameters (at + size p) ps) (at + size p + sizes ps) ⊎ (of_kind token_parameters ps ≡ [])
+        → MaskThere z (elim b as (λ c. ℕ) [ true ↦ at | false ↦ place_of token_parameters (at + size p) ps ]) (at + (size p + sizes ps))
+        ⊎ (◌≡◌ {A = List Part} (elim b as (λ c. List Part) [ true ↦ p ∷ of_kind token_parameters ps | false ↦ of_kind token_parameters ps ]) [])
     go true e i = let m = size_mask p.kind p.fields e in let l = s.0 in inl (omega arith, omega arith)
     go false e i = ⊎_elim (λ h. let m = h.1 in inl (h.0, omega arith)) (λ h. inr h) i
 
 pub mask_there : (z : List ℕ) (at : ℕ) (us : List Part) → States z at us → mask_covers us ≡ false
-    → MaskThere z (place_of tokenParameters at us) (at + sizes us)
+    → MaskThere z (place_of token_parameters at us) (at + sizes us)
 mask_there z at us s e = ⊎_elim (λ h. h) (λ h. wrong (sym e ∙ mask_none us h)) (mask_place z at us s)
 
 -- Every kind has bytes of its own.

@@ -21,22 +21,22 @@ own_fault_first k fs d f e = then_refused _ e
 
 module _ (k : Kind) (fs : Fields) (d : List ℕ) (ss : List Section) (e : reading false d ≡ found ss) where
   -- Then 24, whatever else holds,
-  pub lengths-first : fits [] (layout k) fs ≡ false → addition k fs d ≡ refused (fault 24 (stated d) (stated d))
+  pub lengths_first : fits [] (layout k) fs ≡ false → addition k fs d ≡ refused (fault 24 (stated d) (stated d))
   unfolding addition
-  lengths-first a = then_found _ e ∙ need_failed (fits [] (layout k) fs) _ _ a
+  lengths_first a = then_found _ e ∙ need_failed (fits [] (layout k) fs) _ _ a
 
   -- then 25,
-  pub joining-next : fits [] (layout k) fs ≡ true → joins 0 (parts_of ss ++ record { kind = k; fields = fs } ∷ []) ≡ false
+  pub joining_next : fits [] (layout k) fs ≡ true → joins 0 (parts_of ss ++ record { kind = k; fields = fs } ∷ []) ≡ false
       → addition k fs d ≡ refused (fault 25 (stated d) (stated d))
   unfolding addition
-  joining-next a b = then_found _ e ∙ need_passed (fits [] (layout k) fs) _ _ a ∙ need_failed (joins 0 (parts_of ss ++ record { kind = k; fields = fs } ∷ [])) _ _ b
+  joining_next a b = then_found _ e ∙ need_passed (fits [] (layout k) fs) _ _ a ∙ need_failed (joins 0 (parts_of ss ++ record { kind = k; fields = fs } ∷ [])) _ _ b
 
   -- then 23.
-  pub room-last : fits [] (layout k) fs ≡ true → joins 0 (parts_of ss ++ record { kind = k; fields = fs } ∷ []) ≡ true
+  pub room_last : fits [] (layout k) fs ≡ true → joins 0 (parts_of ss ++ record { kind = k; fields = fs } ∷ []) ≡ true
       → (leb (stated d + size (record { kind = k; fields = fs })) longest && leb (stated d + size (record { kind = k; fields = fs })) (length d)) ≡ false
       → addition k fs d ≡ refused (fault 23 (stated d) (stated d))
   unfolding addition
-  room-last a b c =
+  room_last a b c =
       then_found _ e
       ∙ need_passed (fits [] (layout k) fs) _ _ a
       ∙ need_passed (joins 0 (parts_of ss ++ record { kind = k; fields = fs } ∷ [])) _ _ b

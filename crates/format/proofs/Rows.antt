@@ -10,8 +10,8 @@ use borrow.Author.Tests.{leb-true, not-true}
 use Rattle.format.specs.Bytes.{All}
 use Rattle.format.specs.Layout.{fits}
 use Rattle.format.specs.Slots.{least}
-use Rattle.format.specs.Parts.{Kind, publicKey, rule, transportVariant, exportParameters, tokenParameters}
-use Rattle.format.specs.Parts.{information, applicationData, is_subsection, layout, same_kind, Part, write_parts, external}
+use Rattle.format.specs.Parts.{Kind, public_key, rule, transport_variant, export_parameters, token_parameters}
+use Rattle.format.specs.Parts.{information, application_data, is_subsection, layout, same_kind, Part, write_parts, external}
 use Rattle.format.specs.Rules.{Section, sections_of, same_rule_id, may_both_stand, other_kind}
 use Rattle.format.specs.Legal.{Pairwise, Legal}
 use Rattle.format.specs.Reading.{parts_of}
@@ -93,36 +93,36 @@ headed_once k ss r p = once (λ (s : Section). s.head.kind) may_both_stand k ss 
 
 -- Twice the least length of a subsection is at least 25, with 9 added for a rule's tag 1, 1 for tag 3 and 5 for tag 5.
 subsection_pays : (k : Kind) → is_subsection k ≡ true
-    → 25 ≤ 2 * least (layout k) + 9 * one (same_kind transportVariant k) + one (same_kind exportParameters k)
-    + 5 * one (same_kind tokenParameters k)
+    → 25 ≤ 2 * least (layout k) + 9 * one (same_kind transport_variant k) + one (same_kind export_parameters k)
+    + 5 * one (same_kind token_parameters k)
 subsection_pays k e =
     leb-true 25 _
     (or_else (not (is_subsection k)) _
     (every_kind
     (λ j. not (is_subsection j)
-    || leb 25 (2 * least (layout j) + 9 * one (same_kind transportVariant j) + one (same_kind exportParameters j)
-    + 5 * one (same_kind tokenParameters j)))
+    || leb 25 (2 * least (layout j) + 9 * one (same_kind transport_variant j) + one (same_kind export_parameters j)
+    + 5 * one (same_kind token_parameters j)))
     refl k)
     (ap not e))
 
 -- Twice the least length of a section is at least 40, with 8 added for section 11, 20 for 14 and 28 for 15.
 section_pays : (k : Kind) → is_subsection k ≡ false
-    → 40 ≤ 2 * least (layout k) + 8 * one (same_kind publicKey k) + 20 * one (same_kind information k)
-    + 28 * one (same_kind applicationData k)
+    → 40 ≤ 2 * least (layout k) + 8 * one (same_kind public_key k) + 20 * one (same_kind information k)
+    + 28 * one (same_kind application_data k)
 section_pays k e =
     leb-true 40 _
     (or_else (is_subsection k) _
     (every_kind
     (λ j. is_subsection j
-    || leb 40 (2 * least (layout j) + 8 * one (same_kind publicKey j) + 20 * one (same_kind information j)
-    + 28 * one (same_kind applicationData j)))
+    || leb 40 (2 * least (layout j) + 8 * one (same_kind public_key j) + 20 * one (same_kind information j)
+    + 28 * one (same_kind application_data j)))
     refl k)
     e)
 
 -- 25 times the subsections of a section are at most twice their least bytes, with what is added for the three tags.
 subsections_pay : (us : List Part) → Subs us
     → 25 * length us
-    ≤ 2 * least_of us + 9 * tagged transportVariant us + tagged exportParameters us + 5 * tagged tokenParameters us
+    ≤ 2 * least_of us + 9 * tagged transport_variant us + tagged export_parameters us + 5 * tagged token_parameters us
 subsections_pay [] h = omega arith
 subsections_pay (u ∷ us) h =
     let i = subsections_pay us h.1 in
@@ -133,9 +133,9 @@ subsections_pay (u ∷ us) h =
 subsections_few : (us : List Part) → Subs us → Pairwise other_kind us → 25 * length us ≤ 2 * least_of us + 15
 subsections_few us h p =
     let i = subsections_pay us h in
-    let a = tagged_once transportVariant us p in
-    let b = tagged_once exportParameters us p in
-    let c = tagged_once tokenParameters us p in
+    let a = tagged_once transport_variant us p in
+    let b = tagged_once export_parameters us p in
+    let c = tagged_once token_parameters us p in
     omega arith
 
 -- The least bytes of two lists of parts add up.
@@ -146,7 +146,7 @@ least_append (u ∷ us) ps = let i = least_append us ps in omega arith
 -- 25 times the parts of sections are at most twice their least bytes, with what is added for the three kinds.
 sections_pay : (full x : Bool) (ss : List Section) → All (GoodSection full x) ss
     → 25 * length (parts_of ss)
-    ≤ 2 * least_of (parts_of ss) + 8 * headed publicKey ss + 20 * headed information ss + 28 * headed applicationData ss
+    ≤ 2 * least_of (parts_of ss) + 8 * headed public_key ss + 20 * headed information ss + 28 * headed application_data ss
 sections_pay full x [] g = omega arith
 sections_pay full x (s ∷ ss) g =
     let i = sections_pay full x ss g.1 in
@@ -161,9 +161,9 @@ good_pay : (full x : Bool) (ss : List Section) → GoodSections full x ss
     → 25 * length (parts_of ss) ≤ 2 * length (write_parts (parts_of ss)) + 56
 good_pay full x ss g =
     let i = sections_pay full x ss g.each in
-    let a = headed_once publicKey ss refl g.pairs in
+    let a = headed_once public_key ss refl g.pairs in
     let b = headed_once information ss refl g.pairs in
-    let c = headed_once applicationData ss refl g.pairs in
+    let c = headed_once application_data ss refl g.pairs in
     let f = all_map (GoodPart x) (λ (p : Part). fits [] (layout p.kind) p.fields ≡ true) (λ p q. q.fit)
     (parts_of ss) (flat_good full x ss g.each) in
     let l = parts_least (parts_of ss) f in

@@ -16,16 +16,16 @@ use Rattle.format.proofs.Numbers.{append_inj}
 use Rattle.format.proofs.Unique.{one_choice}
 
 -- Bytes 2 and 3 of a written form state its length.
-written-sized :
+written_sized :
     (i : ℕ) (ps : List Part) → length (written i ps) < 256 ^ 2
     → (4 ≤ length (written i ps)) × (get_or (written i ps) 2 0 * 256 + get_or (written i ps) 3 0 ≡ length (written i ps))
-written-sized i ps h = (omega arith, omega arith)
+written_sized i ps h = (omega arith, omega arith)
 
 -- A legal token has four bytes at least, and its bytes 2 and 3 state its length.
 legal_sized : (bs : List ℕ) → Legal bs → (4 ≤ length bs) × (get_or bs 2 0 * 256 + get_or bs 3 0 ≡ length bs)
 legal_sized bs l =
     subst (λ (x : List ℕ). (4 ≤ length x) × (get_or x 2 0 * 256 + get_or x 3 0 ≡ length x)) l.form.same
-    (written-sized l.id l.parts l.form.whole)
+    (written_sized l.id l.parts l.form.whole)
 
 -- Equal bytes that begin with legal tokens begin with the same one.
 first_told : (t u r s : List ℕ) → Legal t → Legal u → t ++ r ≡ u ++ s → (t ≡ u) × (r ≡ s)
@@ -73,10 +73,10 @@ same_count (t ∷ ts) ls ms =
     ap₂ (λ (x y : ℕ). x + y) (ap rule_count c.1) (same_count ts ls.1 ms.1)
 
 -- Two lists of legal tokens that join to the same bytes have the same count of rules.
-pub one-count :
+pub one_count :
     (ts us : List (List ℕ)) (ls : All Legal ts) (ms : All Legal us) → joined ts ≡ joined us
     → rules_of_all ts ls ≡ rules_of_all us ms
-one-count ts us ls ms e =
+one_count ts us ls ms e =
     subst (λ (vs : List (List ℕ)). (ns : All Legal vs) → rules_of_all ts ls ≡ rules_of_all vs ns) (cutting ts us ls ms e)
     (same_count ts ls) ms
 

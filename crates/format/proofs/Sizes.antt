@@ -9,7 +9,7 @@ use lib.ListN.{length, get_or, length-append}
 use Rattle.format.specs.Bytes.{All, number}
 use Rattle.format.specs.Layout.{fits, write}
 use Rattle.format.specs.Slots.{least}
-use Rattle.format.specs.Parts.{Kind, rule, exportParameters, information, protection, same_kind, layout, Part, size, span, write_parts}
+use Rattle.format.specs.Parts.{Kind, rule, export_parameters, information, protection, same_kind, layout, Part, size, span, write_parts}
 use Rattle.format.specs.Rules.{Section, has, has_required}
 use Rattle.format.specs.Reading.{kind_before, parts_of}
 use Rattle.format.proofs.Finding.{and_split, or_right, or_map, same_kind_eq}
@@ -81,7 +81,7 @@ has_front k (u ∷ us) ps e = or_map (same_kind k u.kind) _ _ (λ h. has_front k
 required : (s : Section) → has_required s ≡ true → (not (same_kind information s.head.kind) || has protection s.subs) ≡ true
 required s e =
     (and_split
-    (not (same_kind rule s.head.kind && eqb (number (get_or s.head.fields 1 [])) 1) || has exportParameters s.subs)
+    (not (same_kind rule s.head.kind && eqb (number (get_or s.head.fields 1 [])) 1) || has export_parameters s.subs)
     (not (same_kind information s.head.kind) || has protection s.subs)
     e).1
 

@@ -20,7 +20,7 @@ use Rattle.format.specs.Reading.{Outcome, refused, found, fault, id_of, stated, 
 use Rattle.format.specs.Reading.{tested, subsection_checks, subsection, subsections, holds_subs, kind_before, rule_before, section_checks}
 use Rattle.format.specs.Reading.{after_subsections, section_rest, section, sections, parts_of}
 use Rattle.format.proofs.Numbers.{bytes_take, bytes_drop, same_sym}
-use Rattle.format.proofs.Finding.{and_split, same_kind_eq, section_kind_sound, subsectionKind-sound}
+use Rattle.format.proofs.Finding.{and_split, same_kind_eq, section_kind_sound, subsection_kind_sound}
 use Rattle.format.proofs.Fitting.{Fits-fits}
 use Rattle.format.proofs.Unique.{size_any, size_pos}
 use Rattle.format.proofs.Tests.{refused_not, found_inj, needed, followed, Hold, tests_passed, hold_split, Kept, located_kept}
@@ -119,7 +119,7 @@ sub_known : (x : Bool) (o k : Kind) (before : List Part) (at n : ℕ) (r : List 
     → tested at (subsection_checks x k (has k before) n r) (found (part_in k r)) ≡ found p → SubRead x o before n r p
 sub_known x o k before at n r p q h b e =
     let t = tests_passed at (subsection_checks x k (has k before) n r) (found (part_in k r)) p e in
-    let s = subsectionKind-sound o (number (bytes_at r 0 2)) k q in
+    let s = subsection_kind_sound o (number (bytes_at r 0 2)) k q in
     let c = t.0 in
     let w = and_split (leb (least (layout k)) (stated r)) (leb (stated r) n) c.0 in
     let fs = hold_split (zero_checks r (body_slots k r)) (located (slots [] (layout k) r 0) (checks x k (part_in k r).fields)) c.1.1.1.1 in

@@ -170,10 +170,10 @@ unfolding and_then
 lacks bs t n b (refused f) q e =
     let r = told_refused (refused f) 23 n e in
     let g = fault_number true bs f q in
-    absurd (let a : f.number ≡ 23 = ap (λ (y : Fault). y.number) (refused-inj r.1) ∙ r.2 in let c = g.1 in omega arith)
+    absurd (let a : f.number ≡ 23 = ap (λ (y : Fault). y.number) (refused_inj r.1) ∙ r.2 in let c = g.1 in omega arith)
   where
-    refused-inj : {f g : Fault} → ◌≡◌ {A = Outcome (List Section)} (refused f) (refused g) → f ≡ g
-    refused-inj e = cc
+    refused_inj : {f g : Fault} → ◌≡◌ {A = Outcome (List Section)} (refused f) (refused g) → f ≡ g
+    refused_inj e = cc
 lacks bs t n b (found ss) q e =
     let s = short (room_for (parts_of ss) t) (columns * row_count ss) (length t) n ss refl e in
     let r = read_parts bs ss b q in

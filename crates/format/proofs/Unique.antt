@@ -61,38 +61,38 @@ abbrev Told : List Item → ℕ → ℕ → Fields → Fields → List ℕ → L
 Told l t u fs gs r s = (fs ≡ gs) × (r ≡ s) × (states l ≡ true → t ≡ u)
 
 -- Fields that fit a layout are told by what is written.
-write-inj :
+write_inj :
     (l : List Item) (t u : ℕ) (ns : List ℕ) (fs gs : Fields) (r s : List ℕ) → Fits t ns l fs → Fits u ns l gs
     → write t l fs ++ r ≡ write u l gs ++ s → Told l t u fs gs r s
-write-inj [] t u ns [] [] r s h k e = (refl, e, λ x. absurd (let z : ◌≡◌ {A = ℕ} 0 1 = cc in omega arith))
-write-inj [] t u ns [] (g ∷ gs) r s h k e = absurd k
-write-inj [] t u ns (f ∷ fs) gs r s h k e = absurd h
-write-inj (code w v ∷ l) t u ns fs gs r s h k e =
-    write-inj l t u ns fs gs r s h.1 k.1 (cut (big_endian w v) (big_endian w v) _ _ r s refl e).1
-write-inj (zeros n q ∷ l) t u ns fs gs r s h k e =
-    write-inj l t u ns fs gs r s h k (cut (replicate n 0) (replicate n 0) _ _ r s refl e).1
-write-inj (own w ∷ l) t u ns fs gs r s h k e =
+write_inj [] t u ns [] [] r s h k e = (refl, e, λ x. absurd (let z : ◌≡◌ {A = ℕ} 0 1 = cc in omega arith))
+write_inj [] t u ns [] (g ∷ gs) r s h k e = absurd k
+write_inj [] t u ns (f ∷ fs) gs r s h k e = absurd h
+write_inj (code w v ∷ l) t u ns fs gs r s h k e =
+    write_inj l t u ns fs gs r s h.1 k.1 (cut (big_endian w v) (big_endian w v) _ _ r s refl e).1
+write_inj (zeros n q ∷ l) t u ns fs gs r s h k e =
+    write_inj l t u ns fs gs r s h k (cut (replicate n 0) (replicate n 0) _ _ r s refl e).1
+write_inj (own w ∷ l) t u ns fs gs r s h k e =
     let c = cut (big_endian w t) (big_endian w u) _ _ r s (big_endian_length w t ∙ sym (big_endian_length w u)) e in
-    let i = write-inj l t u ns fs gs r s h.1 k.1 c.1 in
+    let i = write_inj l t u ns fs gs r s h.1 k.1 c.1 in
     (i.0, i.1, λ x. big_endian_inj w t u h.0 k.0 c.0)
-write-inj (count w j ∷ l) t u ns fs gs r s h k e =
+write_inj (count w j ∷ l) t u ns fs gs r s h k e =
     let n = length (get_or fs j []) in
     let m = length (get_or gs j []) in
     let c = cut (big_endian w n) (big_endian w m) _ _ r s (big_endian_length w n ∙ sym (big_endian_length w m)) e in
     let q : n ≡ m = big_endian_inj w n m h.0 k.0 c.0 in
-    write-inj l t u (ns ++ (n ∷ [])) fs gs r s h.1
+    write_inj l t u (ns ++ (n ∷ [])) fs gs r s h.1
     (subst (λ (z : ℕ). Fits u (ns ++ (z ∷ [])) l gs) (sym q) k.1) c.1
-write-inj (fixed n ∷ l) t u ns [] gs r s h k e = absurd h
-write-inj (fixed n ∷ l) t u ns (f ∷ fs) [] r s h k e = absurd k
-write-inj (fixed n ∷ l) t u ns (f ∷ fs) (g ∷ gs) r s h k e =
+write_inj (fixed n ∷ l) t u ns [] gs r s h k e = absurd h
+write_inj (fixed n ∷ l) t u ns (f ∷ fs) [] r s h k e = absurd k
+write_inj (fixed n ∷ l) t u ns (f ∷ fs) (g ∷ gs) r s h k e =
     let c = cut f g _ _ r s (h.0 ∙ sym k.0) e in
-    let i = write-inj l t u ns fs gs r s h.1 k.1 c.1 in
+    let i = write_inj l t u ns fs gs r s h.1 k.1 c.1 in
     (ap₂ (λ a b. a ∷ b) c.0 i.0, i.1, i.2)
-write-inj (counted n ∷ l) t u ns [] gs r s h k e = absurd h
-write-inj (counted n ∷ l) t u ns (f ∷ fs) [] r s h k e = absurd k
-write-inj (counted n ∷ l) t u ns (f ∷ fs) (g ∷ gs) r s h k e =
+write_inj (counted n ∷ l) t u ns [] gs r s h k e = absurd h
+write_inj (counted n ∷ l) t u ns (f ∷ fs) [] r s h k e = absurd k
+write_inj (counted n ∷ l) t u ns (f ∷ fs) (g ∷ gs) r s h k e =
     let c = cut f g _ _ r s (h.0 ∙ sym k.0) e in
-    let i = write-inj l t u ns fs gs r s h.1 k.1 c.1 in
+    let i = write_inj l t u ns fs gs r s h.1 k.1 c.1 in
     (ap₂ (λ a b. a ∷ b) c.0 i.0, i.1, i.2)
 
 -- ---- what is written tells the kind
@@ -108,12 +108,12 @@ SameCode false i g j h = i ≡ j
 SameCode true i g j h = g ≡ h
 
 -- A section's id, and a subsection's tag, are told by what is written.
-code-told :
+code_told :
     (b : Bool) (i g j h t u : ℕ) (l m : List Item) (fs gs : Fields) (r s : List ℕ)
     → Fits t [] (frame b i g ++ l) fs → Fits u [] (frame b j h ++ m) gs
     → write t (frame b i g ++ l) fs ++ r ≡ write u (frame b j h ++ m) gs ++ s → SameCode b i g j h
-code-told false i g j h t u l m fs gs r s p q e = let a = head-eq_of_cons-eq e in omega arith
-code-told true i g j h t u l m fs gs r s p q e =
+code_told false i g j h t u l m fs gs r s p q e = let a = head-eq_of_cons-eq e in omega arith
+code_told true i g j h t u l m fs gs r s p q e =
     let a = head-eq_of_cons-eq e in
     let b = head-eq_of_cons-eq (tail-eq_of_cons-eq e) in
     omega arith
@@ -124,20 +124,20 @@ Owned true i o = i ≡ o
 Owned false i o = Unit {0}
 
 -- Two sections with the same id, or two subsections of one section with the same tag, have the same kind.
-code-kind :
+code_kind :
     (b : Bool) (k j : Kind) (o : ℕ) → is_subsection k ≡ b → is_subsection j ≡ b → Owned b (section_id k) o
     → Owned b (section_id j) o → SameCode b (section_id k) (tag k) (section_id j) (tag j) → k ≡ j
-code-kind false k j o p q a c s = kind_told k j s (no_tag k p ∙ sym (no_tag j q))
-code-kind true k j o p q a c s = kind_told k j (a ∙ sym c) s
+code_kind false k j o p q a c s = kind_told k j s (no_tag k p ∙ sym (no_tag j q))
+code_kind true k j o p q a c s = kind_told k j (a ∙ sym c) s
 
 -- Of two parts that are both sections, or both subsections of one section, what is written tells the kind.
-kind-written :
+kind_written :
     (k j : Kind) (o t u : ℕ) (fs gs : Fields) (r s : List ℕ) → is_subsection k ≡ is_subsection j
     → Owned (is_subsection k) (section_id k) o → Owned (is_subsection j) (section_id j) o → Fits t [] (layout k) fs
     → Fits u [] (layout j) gs → write t (layout k) fs ++ r ≡ write u (layout j) gs ++ s → k ≡ j
-kind-written k j o t u fs gs r s d a c f g e =
-    code-kind (is_subsection k) k j o refl (sym d) a (rw (← d) at c)
-    (code-told (is_subsection k) (section_id k) (tag k) (section_id j) (tag j) t u (body k) (body j) fs gs r s f
+kind_written k j o t u fs gs r s d a c f g e =
+    code_kind (is_subsection k) k j o refl (sym d) a (rw (← d) at c)
+    (code_told (is_subsection k) (section_id k) (tag k) (section_id j) (tag j) t u (body k) (body j) fs gs r s f
     (rw (← d) at g) (rw (← d) at e))
 
 -- Parts with the same kind and fields are the same.
@@ -146,16 +146,16 @@ part_path {p} {q} a b = ap₂ {C = Part} (λ (k : Kind) (f : Fields). record { k
 
 -- Of two parts that are both sections, or both subsections of one section, what is written tells which part it is,
 -- what follows it, and the length that it states.
-part-told :
+part_told :
     (p q : Part) (o t u : ℕ) (r s : List ℕ) → is_subsection p.kind ≡ is_subsection q.kind
     → Owned (is_subsection p.kind) (section_id p.kind) o → Owned (is_subsection q.kind) (section_id q.kind) o
     → Fits t [] (layout p.kind) p.fields → Fits u [] (layout q.kind) q.fields
     → write t (layout p.kind) p.fields ++ r ≡ write u (layout q.kind) q.fields ++ s
     → (p ≡ q) × (r ≡ s) × (t ≡ u)
-part-told p q o t u r s d a c f g e =
+part_told p q o t u r s d a c f g e =
     let k = p.kind in
-    let x : k ≡ q.kind = kind-written k q.kind o t u p.fields q.fields r s d a c f g e in
-    let i = write-inj (layout k) t u [] p.fields q.fields r s f (rw (← x) at g) (rw (← x) at e) in
+    let x : k ≡ q.kind = kind_written k q.kind o t u p.fields q.fields r s d a c f g e in
+    let i = write_inj (layout k) t u [] p.fields q.fields r s f (rw (← x) at g) (rw (← x) at e) in
     (part_path x i.0, i.1, i.2 (framed_states (is_subsection k) (section_id k) (tag k) (body k)))
 
 -- ---- parts that fit
@@ -217,21 +217,21 @@ some_bytes p ps =
     simp length-append (omega arith)
 
 -- Parts that fit are told by what is written.
-parts-inj :
+parts_inj :
     (ps qs : List Part) (o : ℕ) → FitParts o ps → FitParts o qs → subsections_length ps ≡ subsections_length qs
     → write_parts ps ≡ write_parts qs → ps ≡ qs
-parts-inj [] [] o h k l e = refl
-parts-inj [] (q ∷ qs) o h k l e = let z = some_bytes q qs in let w = ap length e in absurd (omega arith)
-parts-inj (p ∷ ps) [] o h k l e = let z = some_bytes p ps in let w = ap length e in absurd (omega arith)
-parts-inj (p ∷ ps) (q ∷ qs) o h k l e =
+parts_inj [] [] o h k l e = refl
+parts_inj [] (q ∷ qs) o h k l e = let z = some_bytes q qs in let w = ap length e in absurd (omega arith)
+parts_inj (p ∷ ps) [] o h k l e = let z = some_bytes p ps in let w = ap length e in absurd (omega arith)
+parts_inj (p ∷ ps) (q ∷ qs) o h k l e =
     let n = subsections_length ps in
     let m = subsections_length qs in
     let b = is_subsection p.kind in
     let d = sides b (is_subsection q.kind) (size p) n (size q) m (size_pos p) (size_pos q) l in
-    let i = part-told p q o (span p ps) (span q qs) (write_parts ps) (write_parts qs) d h.0 k.0 h.1 k.1 e in
+    let i = part_told p q o (span p ps) (span q qs) (write_parts ps) (write_parts qs) d h.0 k.0 h.1 k.1 e in
     let g : p ≡ q = i.0 in
     let x : n ≡ m = span_tells p ps qs (rw (← g) at l) (rw (← g) at i.2) in
-    ap₂ (λ y z. y ∷ z) g (parts-inj ps qs (section_id p.kind) h.2 (rw (← g) at k.2) x i.1)
+    ap₂ (λ y z. y ∷ z) g (parts_inj ps qs (section_id p.kind) h.2 (rw (← g) at k.2) x i.1)
 
 -- A part before which no section stands is no subsection.
 unowned : (b : Bool) (i n : ℕ) → 0 < i → Owned b i 0 → pick b n 0 ≡ 0
@@ -246,10 +246,10 @@ subsections_none (p ∷ ps) h =
     unowned (is_subsection k) (section_id k) (size p + subsections_length ps) (section_id_pos k) h.0
 
 -- The identifier fits the header, where the length of the written form can be stated.
-header-fits :
+header_fits :
     (i : ℕ) (ps : List Part) → length (written i ps) < 256 ^ 2
     → Fits (8 + length (write_parts ps)) [] header ((i ∷ []) ∷ [])
-header-fits i ps h = (refl, (omega arith, tt))
+header_fits i ps h = (refl, (omega arith, tt))
 
 -- Bytes are the written form of one choice.
 pub one_choice :
@@ -257,11 +257,11 @@ pub one_choice :
 one_choice i j ps qs bs h k =
     let n = 8 + length (write_parts ps) in
     let m = 8 + length (write_parts qs) in
-    let a = header-fits i ps (let w = h.whole in omega arith) in
-    let b = header-fits j qs (let w = k.whole in omega arith) in
+    let a = header_fits i ps (let w = h.whole in omega arith) in
+    let b = header_fits j qs (let w = k.whole in omega arith) in
     let e = h.same ∙ sym k.same in
-    let c = write-inj header n m [] ((i ∷ []) ∷ []) ((j ∷ []) ∷ []) (write_parts ps) (write_parts qs) a b e in
+    let c = write_inj header n m [] ((i ∷ []) ∷ []) ((j ∷ []) ∷ []) (write_parts ps) (write_parts qs) a b e in
     let f = fit_parts ps 0 h.choice.fit h.choice.joined h.parts in
     let g = fit_parts qs 0 k.choice.fit k.choice.joined k.parts in
     let x = subsections_none ps f ∙ sym (subsections_none qs g) in
-    (head-eq_of_cons-eq (head-eq_of_cons-eq c.0), parts-inj ps qs 0 f g x c.1)
+    (head-eq_of_cons-eq (head-eq_of_cons-eq c.0), parts_inj ps qs 0 f g x c.1)

@@ -175,12 +175,12 @@ pub step_exactly : (bs : List ℕ) (at : ℕ) → Bytes bs
     ↔ ((l : Legal bs) × ((k : ℕ) (x : Placed) → IsRow bs l k x → at ≡ x.row.offset → ⊥) × (at ≡ length bs → ⊥)))
 unfolding step_number row_kind
 step_exactly bs at b = (
-  ((λ w. ended w.0 w.1 (judged bs b)), λ w. (ap step_number (at-end w), ap row_kind (at-end w))),
+  ((λ w. ended w.0 w.1 (judged bs b)), λ w. (ap step_number (at_end w), ap row_kind (at_end w))),
   ((λ e. nowhere e (judged bs b)), λ w. ap step_number (step_nowhere bs w.0 at w.1 w.2)),
 )
   where
-    at-end : Legal bs × (at ≡ length bs) → step_at bs at ≡ End
-    at-end w = ap (step_at bs) w.1 ∙ step_at_end bs w.0
+    at_end : Legal bs × (at ≡ length bs) → step_at bs at ≡ End
+    at_end w = ap (step_at bs) w.1 ∙ step_at_end bs w.0
 
     ended : step_number (step_at bs at) ≡ 0 → row_kind (step_at bs at) ≡ 0 → Judged bs
         → Legal bs × (at ≡ length bs)
@@ -197,7 +197,7 @@ step_exactly bs at b = (
       (λ k x r q.
           let n : ◌≡◌ {A = ℕ} 0 22 = sym (ap step_number (ap (step_at bs) q ∙ step_at_row bs l k x r)) ∙ p in
           omega arith),
-      λ q. let n : ◌≡◌ {A = ℕ} 0 22 = sym (ap step_number (at-end (l, q))) ∙ p in omega arith,
+      λ q. let n : ◌≡◌ {A = ℕ} 0 22 = sym (ap step_number (at_end (l, q))) ∙ p in omega arith,
     )
     nowhere p (inr w) =
         absurd (let n : w.0.number ≡ 22 = sym (ap step_number (step_refused bs w.0 at w.1)) ∙ p in let r = fault_number true bs w.0 w.1 in omega (arith, r))

@@ -5,39 +5,39 @@ use Rattle.format.specs.Bytes.{Bytes, All}
 use Rattle.format.specs.Layout.{Item, code, zeros, own, count, fixed, counted, Fields, write, fits}
 
 pub data Kind : Type 0 where
-  publicKey rule transportVariant transportRule exportParameters sourceRule tokenParameters : Kind
-  name information protection dates applicationData : Kind
+  public_key rule transport_variant transport_rule export_parameters source_rule token_parameters : Kind
+  name information protection dates application_data : Kind
 
 abbrev pub kinds : List Kind
 kinds =
-    publicKey
+    public_key
     ∷ rule
-    ∷ transportVariant
-    ∷ transportRule
-    ∷ exportParameters
-    ∷ sourceRule
-    ∷ tokenParameters
+    ∷ transport_variant
+    ∷ transport_rule
+    ∷ export_parameters
+    ∷ source_rule
+    ∷ token_parameters
     ∷ name
     ∷ information
     ∷ protection
     ∷ dates
-    ∷ applicationData
+    ∷ application_data
     ∷ []
 
 -- the id of the section that the kind is, or that the subsection stands in; and its tag, 0 for a section
 abbrev pub ids : Kind → ℕ × ℕ
-ids publicKey = (0x11, 0)
+ids public_key = (0x11, 0)
 ids rule = (0x12, 0)
-ids transportVariant = (0x12, 0x0001)
-ids transportRule = (0x12, 0x0002)
-ids exportParameters = (0x12, 0x0003)
-ids sourceRule = (0x12, 0x0004)
-ids tokenParameters = (0x12, 0x0005)
+ids transport_variant = (0x12, 0x0001)
+ids transport_rule = (0x12, 0x0002)
+ids export_parameters = (0x12, 0x0003)
+ids source_rule = (0x12, 0x0004)
+ids token_parameters = (0x12, 0x0005)
 ids name = (0x13, 0)
 ids information = (0x14, 0)
 ids protection = (0x14, 0x0001)
 ids dates = (0x14, 0x0002)
-ids applicationData = (0x15, 0)
+ids application_data = (0x15, 0)
 
 abbrev pub section_id : Kind → ℕ
 section_id k = (ids k).0
@@ -49,20 +49,20 @@ tag k = (ids k).1
 -- compare w in `count w k` and s in `counted s`; that k goes with s is computed over all kinds (proofs/Layouts `layouts_sound`)
 abbrev pub body : Kind → List Item
 -- 11, length 16+x+y: 3 reserved, 4 x, 5 modulus bits, 6 y, 7 exponent, 8 modulus, 9 flags
-body publicKey = zeros 2 10 ∷ count 2 1 ∷ fixed 2 ∷ count 2 1 ∷ counted 0 ∷ counted 1 ∷ fixed 4 ∷ []
+body public_key = zeros 2 10 ∷ count 2 1 ∷ fixed 2 ∷ count 2 1 ∷ counted 0 ∷ counted 1 ∷ fixed 4 ∷ []
 -- 12, length 20 + its subsections: 3 Rule ID, 4 flags, 5 generated length, 6 key-check, 7 symmetric format, 8 asymmetric format
 body rule = fixed 8 ∷ fixed 4 ∷ fixed 1 ∷ fixed 1 ∷ fixed 1 ∷ fixed 1 ∷ []
 -- 12/0001, length 8+n: 3 reserved, 4 n, 5 variant
-body transportVariant = zeros 2 10 ∷ count 1 0 ∷ counted 0 ∷ []
+body transport_variant = zeros 2 10 ∷ count 1 0 ∷ counted 0 ∷ []
 -- 12/0002, length 14: 3 reserved, 4 Rule ID
-body transportRule = zeros 1 10 ∷ fixed 8 ∷ []
+body transport_rule = zeros 1 10 ∷ fixed 8 ∷ []
 -- 12/0003, length 12+x+c: 3 reserved, 4 flags, 5 minimum, 6 maximum, 7 x, 8 variant, 9 c, 10 CV
-body exportParameters =
+body export_parameters =
     zeros 2 10 ∷ zeros 1 11 ∷ fixed 1 ∷ fixed 1 ∷ count 1 0 ∷ counted 0 ∷ count 1 0 ∷ counted 1 ∷ []
 -- 12/0004, length 14: 3 reserved, 4 Rule ID
-body sourceRule = zeros 1 10 ∷ fixed 8 ∷ []
+body source_rule = zeros 1 10 ∷ fixed 8 ∷ []
 -- 12/0005, length 10+2m+z: 3 reserved, 4 flags, 5 m, 6 mask, 7 template, 8 z, 9 label template
-body tokenParameters = zeros 2 10 ∷ zeros 1 11 ∷ count 1 0 ∷ counted 0 ∷ counted 0 ∷ count 1 0 ∷ counted 1 ∷ []
+body token_parameters = zeros 2 10 ∷ zeros 1 11 ∷ count 1 0 ∷ counted 0 ∷ counted 0 ∷ count 1 0 ∷ counted 1 ∷ []
 -- 13, length 68: 3 name
 body name = fixed 64 ∷ []
 -- 14, length 10 + its subsections: 3 reserved, 4 flags
@@ -72,7 +72,7 @@ body protection = zeros 1 10 ∷ fixed 32 ∷ fixed 8 ∷ fixed 16 ∷ []
 -- 14/0002, length 16: 3 reserved, 4 flags, 5 activation, 6 expiration
 body dates = zeros 1 10 ∷ fixed 2 ∷ fixed 4 ∷ fixed 4 ∷ []
 -- 15, length 6+x: 3 x, 4 data
-body applicationData = count 2 0 ∷ counted 0 ∷ []
+body application_data = count 2 0 ∷ counted 0 ∷ []
 
 abbrev pub is_subsection : Kind → Bool
 is_subsection k = elim (tag k) [ zero ↦ false | suc n ↦ true ]

@@ -21,7 +21,7 @@ use Rattle.std.proofs.Math.Option.{Option, none, some}
 use Rattle.format.specs.Bytes.{any, number, bytes_at, all_zero}
 use Rattle.format.specs.Layout.{code, zeros, own, count, fixed, counted}
 use Rattle.format.specs.Slots.{least, Slot, slots, offset_of, slot_bytes, fields_in, end_of}
-use Rattle.format.specs.Parts.{Kind, kinds, rule, information, tokenParameters, section_id, tag, body, is_subsection, layout, header}
+use Rattle.format.specs.Parts.{Kind, kinds, rule, information, token_parameters, section_id, tag, body, is_subsection, layout, header}
 use Rattle.format.specs.Parts.{same_kind, Part, size, external, known_id}
 use Rattle.format.specs.Rules.{longest, Check, check, checks, Section, has, same_rule_id, mask_covers, has_required}
 use Rattle.format.specs.declared.Answer.{Answer}
@@ -195,12 +195,12 @@ place_of k at (p ∷ ps) = elim (same_kind k p.kind) [ true ↦ at | false ↦ p
 
 -- where m lies in a 0005, before every counted field
 abbrev pub mask_offset : ℕ
-mask_offset = offset_of (slots [] (layout tokenParameters) [] 0) 5
+mask_offset = offset_of (slots [] (layout token_parameters) [] 0) 5
 
 -- the end of a section, its subsections beginning at `first`: 0005 against 0003, then what is required
 unfoldable pub after_subsections : Bool → ℕ → ℕ → Section → Outcome Section
 after_subsections full at first s =
-    need (mask_covers s.subs) (fault 18 (place_of tokenParameters first s.subs) (place_of tokenParameters first s.subs + mask_offset))
+    need (mask_covers s.subs) (fault 18 (place_of token_parameters first s.subs) (place_of token_parameters first s.subs + mask_offset))
     (need (not full || has_required s) (fault 20 at at) (found s))
 
 -- the rest of the section of kind k at the front of r: the subsections after the m bytes of its own fields, then its end. In

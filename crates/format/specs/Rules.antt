@@ -4,8 +4,8 @@
 use Rattle.std.specs.Prelude.{Bool, true, false, not, ◌&&◌, ◌||◌, List, [], ◌∷◌, ℕ, eqb, leb, length, get_or}
 use Rattle.format.specs.Bytes.{every, any, number, all_zero, same_bytes}
 use Rattle.format.specs.Layout.{Fields}
-use Rattle.format.specs.Parts.{Kind, publicKey, rule, transportVariant, transportRule, exportParameters, sourceRule, tokenParameters}
-use Rattle.format.specs.Parts.{name, information, protection, dates, applicationData, is_subsection, same_kind, Part}
+use Rattle.format.specs.Parts.{Kind, public_key, rule, transport_variant, transport_rule, export_parameters, source_rule, token_parameters}
+use Rattle.format.specs.Parts.{name, information, protection, dates, application_data, is_subsection, same_kind, Part}
 use Rattle.format.specs.Forms.{between, rule_id_form, rule_id_reach, label_form, label_reach, date_exists, in_order, key_length, fewest_bytes, modulus_form, exponent_form}
 
 -- a rule on a field: the field's number, the byte of the field that a refusal points at, from 0, the refusal, and whether the
@@ -80,7 +80,7 @@ dates_judged flags = eqb (number flags) 1
 -- the rules on the chosen fields f of a kind, in the order in which they are tested; x: the token is external. A rule on 01's
 -- x, y, c, m or z is one on the length of the field that it counts, for m the mask
 abbrev pub checks : Bool → Kind → Fields → List Check
-checks x publicKey f =
+checks x public_key f =
     let bits = number (get_or f 0 []) in
     let exponent = get_or f 1 [] in
     let modulus = get_or f 2 [] in
@@ -96,21 +96,21 @@ checks x rule f =
     let rule_id = get_or f 0 [] in
     let flags = get_or f 1 [] in
     let generated = get_or f 2 [] in
-    let keyCheck = get_or f 3 [] in
+    let key_check = get_or f 3 [] in
     let symmetric = get_or f 4 [] in
     let asymmetric = get_or f 5 [] in
     form_check 3 (rule_id_reach rule_id) (rule_id_form rule_id)
     ∷ check 4 11 (zero_or_one flags)
     ∷ check 5 11 (generated_length_allowed flags generated)
-    ∷ check 6 11 (zero_to_two keyCheck)
+    ∷ check 6 11 (zero_to_two key_check)
     ∷ check 7 11 (symmetric_format_allowed flags symmetric)
     ∷ check 8 11 (zero_to_two asymmetric)
     ∷ []
 -- f: 0 variant
-checks x transportVariant f = []
+checks x transport_variant f = []
 -- f: 0 Rule ID
-checks x transportRule f = form_check 4 (rule_id_reach (get_or f 0 [])) (rule_id_form (get_or f 0 [])) ∷ []
-checks x exportParameters f =
+checks x transport_rule f = form_check 4 (rule_id_reach (get_or f 0 [])) (rule_id_form (get_or f 0 [])) ∷ []
+checks x export_parameters f =
     let minimum = get_or f 0 [] in
     let maximum = get_or f 1 [] in
     let variant = get_or f 2 [] in
@@ -122,8 +122,8 @@ checks x exportParameters f =
     ∷ check 9 18 (control_length cv)  -- 01's c
     ∷ []
 -- f: 0 Rule ID
-checks x sourceRule f = form_check 4 (rule_id_reach (get_or f 0 [])) (rule_id_form (get_or f 0 [])) ∷ []
-checks x tokenParameters f =
+checks x source_rule f = form_check 4 (rule_id_reach (get_or f 0 [])) (rule_id_form (get_or f 0 [])) ∷ []
+checks x token_parameters f =
     let mask = get_or f 0 [] in
     let label = get_or f 2 [] in
     check 5 18 (control_length mask)  -- 01's m
@@ -147,7 +147,7 @@ checks x dates f =
     ∷ check 6 19 (not (dates_judged flags) || in_order activation expiration)
     ∷ []
 -- f: 0 data
-checks x applicationData f = []
+checks x application_data f = []
 
 -- ---- the rules between parts
 
@@ -205,12 +205,12 @@ abbrev pub mask_covers : List Part → Bool
 mask_covers subs =
     every
     (λ (p : Part).
-    eqb (mask_length p) 0 || every (λ (q : Part). leb (minimum_of q) (mask_length p)) (of_kind exportParameters subs))
-    (of_kind tokenParameters subs)
+    eqb (mask_length p) 0 || every (λ (q : Part). leb (minimum_of q) (mask_length p)) (of_kind export_parameters subs))
+    (of_kind token_parameters subs)
 
 -- an export rule has a 0003, and section 14 its 0001; chosen field 1 of a rule is its flags
 abbrev pub has_required : Section → Bool
 has_required s =
     let exports = same_kind rule s.head.kind && eqb (number (get_or s.head.fields 1 [])) 1 in
-    (not exports || has exportParameters s.subs)
+    (not exports || has export_parameters s.subs)
     && (not (same_kind information s.head.kind) || has protection s.subs)

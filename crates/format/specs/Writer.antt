@@ -50,11 +50,11 @@ abbrev pub public_key_fields : ℕ → List ℕ → List ℕ → ℕ → Fields
 public_key_fields bits exponent modulus flags = big_endian 2 bits ∷ exponent ∷ modulus ∷ big_endian 4 flags ∷ []
 
 abbrev pub rule_fields : List ℕ → ℕ → ℕ → ℕ → ℕ → ℕ → Fields
-rule_fields rule_id flags generated keyCheck symmetric asymmetric =
+rule_fields rule_id flags generated key_check symmetric asymmetric =
     rule_id
     ∷ big_endian 4 flags
     ∷ big_endian 1 generated
-    ∷ big_endian 1 keyCheck
+    ∷ big_endian 1 key_check
     ∷ big_endian 1 symmetric
     ∷ big_endian 1 asymmetric
     ∷ []

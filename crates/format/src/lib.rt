@@ -1,5 +1,6 @@
 // Public: the types that answers are made of, and the limits; in the definitions each u32 is a natural number, ℕ. The definitions of
 // the format stand in specs/, the theorems about them in proofs/.
+#![tactic(auto)]
 
 // A token is at most this long.
 pub const LONGEST: usize = 3500;
@@ -21,6 +22,7 @@ pub const TABLE: usize = COLUMNS * ROWS;
 
 // The answer of reading, of a view's partner question, of a line of the listing and of each call of the writer: accepted with its second number, or the refusal's number and place.
 #[derive(Drop)]
+#[derive(Clone, Copy)]
 pub enum Answer {
     Accepted(u32),
     Refused(u32, u32),
@@ -28,6 +30,7 @@ pub enum Answer {
 
 // A row of the table: a section or a subsection of the token.
 #[derive(Drop)]
+#[derive(Clone, Copy)]
 pub struct Row {
     pub kind: u32,
     pub offset: u32,
@@ -38,6 +41,7 @@ pub struct Row {
 
 // What a view asks for: where a field lies in the token and how long it is, or the refusal's number and place.
 #[derive(Drop)]
+#[derive(Clone, Copy)]
 pub enum Where {
     At(u32, u32),
     Missing(u32, u32),
@@ -45,6 +49,7 @@ pub enum Where {
 
 // A step of the walk: a row with the next row's place, the end, or the refusal's number and place.
 #[derive(Drop)]
+#[derive(Clone, Copy)]
 pub enum Step {
     Record(Row, u32),
     End,

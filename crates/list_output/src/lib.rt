@@ -1,4 +1,6 @@
 // Internal: the lines of the listing, written to standard output.
+#![tactic(auto)]
+
 use format::{Answer, Row};
 use libc::STDOUT_FILENO;
 use listing::{first_line, row_line};

@@ -1,4 +1,6 @@
 // Program: reads one token from standard input, at most 3,501 bytes, and writes its listing to standard output.
+#![tactic(auto)]
+
 ghost use Rattle.std.specs.Prelude.{◌+◌, ◌≤◌, length};
 ghost use Rattle.format.specs.Rules.{longest};
 

@@ -1,4 +1,6 @@
 // Internal: words and numbers, stored one after the other in a line. Each call gives the place after what it stored.
+#![tactic(auto)]
+
 ghost use Rattle.std.specs.Prelude.{◌≡◌, ◌++◌, ◌∷◌, [], ◌+◌, ◌<◌, ◌≤◌, max, length};
 ghost use Rattle.format.specs.Lines.{digit_text, id_text, tag_text, kind_text};
 ghost use Rattle.list_words.specs.Numerals.{digit_count, numeral};

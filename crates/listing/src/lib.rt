@@ -1,5 +1,7 @@
 // Public: the lines of the listing, each made by a call at the start of a lent buffer. A call answers 0 with the line's
 // length, or 23 where the buffer is too small for the line and is left as it is.
+#![tactic(auto)]
+
 ghost use Rattle.std.specs.Prelude.{◌≡◌, ◌≤◌, length};
 ghost use Rattle.format.specs.Lines.{first_line, row_line};
 ghost use Rattle.listing.specs.Buffers.{line_answer, line_in};

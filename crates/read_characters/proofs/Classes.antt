@@ -35,22 +35,22 @@ module _ (P : ℕ → Bool → Bool → Bool → Bool → Bool → Bool → Type
     (of_space : P space_class false false false false false true)
     (of_other : P other_class false false false false false false) where
   -- no sign, star or space: a letter, a digit or another
-  of-rest : (l d : Bool) → (d ≡ true → l ≡ false)
+  of_rest : (l d : Bool) → (d ≡ true → l ≡ false)
       → P (pick l letter_class (pick d digit_class other_class)) l d false false false false
   unfolding pick
-  of-rest true true h = absurd (true≢false (h refl))
-  of-rest true false h = of-letter
-  of-rest false true h = of-digit
-  of-rest false false h = of_other
+  of_rest true true h = absurd (true≢false (h refl))
+  of_rest true false h = of-letter
+  of_rest false true h = of-digit
+  of_rest false false h = of_other
 
-  of-no-sign : (b : ℕ) → rule_sign b ≡ false → label_sign b ≡ false → star b ≡ false → space b ≡ false
+  of_no_sign : (b : ℕ) → rule_sign b ≡ false → label_sign b ≡ false → star b ≡ false → space b ≡ false
       → P (class_of b) (letter b) (digit b) (rule_sign b) (label_sign b) (star b) (space b)
   unfolding class_of pick
-  of-no-sign b r g t p = rw (r, g, t, p) (of-rest (letter b) (digit b) (not_letter b))
+  of_no_sign b r g t p = rw (r, g, t, p) (of_rest (letter b) (digit b) (not_letter b))
 
-  pub by-class : (b : ℕ) → P (class_of b) (letter b) (digit b) (rule_sign b) (label_sign b) (star b) (space b)
+  pub by_class : (b : ℕ) → P (class_of b) (letter b) (digit b) (rule_sign b) (label_sign b) (star b) (space b)
   unfolding class_of pick
-  by-class b =
+  by_class b =
       ⊎_elim
       (λ r. ⊎_elim (λ e. rw (eqb-true b 0x2D e) of-rule) (λ e. rw (eqb-true b 0x5F e) of-rule)
       (either (eqb b 0x2D) (eqb b 0x5F) r))
@@ -63,7 +63,7 @@ module _ (P : ℕ → Bool → Bool → Bool → Bool → Bool → Bool → Type
       (either (eqb b 0x23 || eqb b 0x24) (eqb b 0x40) g))
       (λ g.
       ⊎_elim (λ t. rw (eqb-true b 0x2A t) of-star)
-      (λ t. ⊎_elim (λ p. rw (eqb-true b 0x20 p) of_space) (λ p. of-no-sign b r g t p) (yes_or_no (space b)))
+      (λ t. ⊎_elim (λ p. rw (eqb-true b 0x20 p) of_space) (λ p. of_no_sign b r g t p) (yes_or_no (space b)))
       (yes_or_no (star b)))
       (yes_or_no (label_sign b)))
       (yes_or_no (rule_sign b))
@@ -72,18 +72,18 @@ module _ (P : ℕ → Bool → Bool → Bool → Bool → Bool → Bool → Type
 
 pub rule_class_is : (b : ℕ) → in_rule_id b ≡ of_class letter_class rule_class b
 unfolding of_class
-rule_class_is = by-class (λ c l d r g t p. (l || d || r) ≡ between letter_class rule_class c) refl refl refl refl refl refl refl
+rule_class_is = by_class (λ c l d r g t p. (l || d || r) ≡ between letter_class rule_class c) refl refl refl refl refl refl refl
 
 pub plain_class : (b : ℕ) → plain_label b ≡ of_class label_class digit_class b
 unfolding of_class
-plain_class = by-class (λ c l d r g t p. (l || d || g) ≡ between label_class digit_class c) refl refl refl refl refl refl refl
+plain_class = by_class (λ c l d r g t p. (l || d || g) ≡ between label_class digit_class c) refl refl refl refl refl refl refl
 
 pub space_class_is : (b : ℕ) → space b ≡ of_class space_class space_class b
 unfolding of_class
-space_class_is = by-class (λ c l d r g t p. p ≡ between space_class space_class c) refl refl refl refl refl refl refl
+space_class_is = by_class (λ c l d r g t p. p ≡ between space_class space_class c) refl refl refl refl refl refl refl
 
 pub star_class_is : (b : ℕ) → star b ≡ eqb (class_of b) star_class
-star_class_is = by-class (λ c l d r g t p. t ≡ eqb c star_class) refl refl refl refl refl refl refl
+star_class_is = by_class (λ c l d r g t p. t ≡ eqb c star_class) refl refl refl refl refl refl refl
 
 -- may stand first in a label template
 abbrev first_class : ℕ → Bool
@@ -91,21 +91,21 @@ first_class c = eqb c letter_class || eqb c label_class || eqb c star_class
 
 pub first_class_is : (b c : ℕ) → c ≡ class_of b → (in_label b && not (digit b)) ≡ first_class c
 first_class_is b c e =
-    by-class (λ k l d r g t p. ((l || d || g || t) && not d) ≡ first_class k) refl refl refl refl refl refl refl b
+    by_class (λ k l d r g t p. ((l || d || g || t) && not d) ≡ first_class k) refl refl refl refl refl refl refl b
     ∙ ap first_class (sym e)
 
 -- ---- classes lo to hi, as the code tests them
 
 module _ (lo hi b : ℕ) {r : ℕ} (e : r ≡ class_of b) where
-  pub class-in : lo ≤ r → ltb hi r ≡ false → of_class lo hi b ≡ true
+  pub class_in : lo ≤ r → ltb hi r ≡ false → of_class lo hi b ≡ true
   unfolding of_class
-  class-in h k =
+  class_in h k =
       rw (le-leb lo (class_of b) (omega (arith, e)), le-leb (class_of b) hi (omega (arith, e, ltb-false hi r k)))
 
-  pub class-below : r < lo → of_class lo hi b ≡ false
+  pub class_below : r < lo → of_class lo hi b ≡ false
   unfolding of_class
-  class-below h = rw (lt-leb lo (class_of b) (omega (arith, e)))
+  class_below h = rw (lt-leb lo (class_of b) (omega (arith, e)))
 
-  pub class-above : ltb hi r ≡ true → of_class lo hi b ≡ false
+  pub class_above : ltb hi r ≡ true → of_class lo hi b ≡ false
   unfolding of_class
-  class-above k = rw (lt-leb (class_of b) hi (omega (arith, e, ltb-true hi r k))) (and-false (leb lo (class_of b)))
+  class_above k = rw (lt-leb (class_of b) hi (omega (arith, e, ltb-true hi r k))) (and-false (leb lo (class_of b)))

@@ -10,7 +10,7 @@ use borrow.Author.Tests.{eqb-true}
 use Rattle.format.proofs.Finding.{and_split}
 use Rattle.read_characters.specs.Classes.{class_of, letter_class, digit_class, rule_class, label_class, star_class, space_class, other_class}
 use Rattle.read_characters.specs.Page.{marks, has_marks, have_marks, is_page, Page}
-use Rattle.read_characters.proofs.Classes.{by-class}
+use Rattle.read_characters.proofs.Classes.{by_class}
 
 -- the entry of the value b + k, where the entries are those of the values from b on
 from : (cs : List ℕ) (b k : ℕ) → have_marks b cs ≡ true → k < length cs → has_marks (b + k) (get_or cs k 0) ≡ true
@@ -39,7 +39,7 @@ sure false f e = sym (f refl) ∙ e
 -- an entry with the marks of a value is its class
 marked : (c b : ℕ) → has_marks b c ≡ true → eqb c (class_of b) ≡ true
 marked c =
-    by-class (λ k l d r g t p. marks c l d r g t p ≡ true → eqb c k ≡ true)
+    by_class (λ k l d r g t p. marks c l d r g t p ≡ true → eqb c k ≡ true)
     (sure (eqb c letter_class) (λ e. rw e))
     (sure (eqb c digit_class) (λ e. rw e (simp and-false)))
     (sure (eqb c rule_class) (λ e. rw e (simp and-false)))

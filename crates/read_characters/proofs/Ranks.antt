@@ -12,7 +12,7 @@ use Rattle.format.specs.Bytes.{every, bytes_at}
 use Rattle.format.specs.Forms.{leading, space, in_rule_id, rule_id_form}
 use Rattle.read_characters.specs.Classes.{class_of}
 use Rattle.read_fields.proofs.Lists.{bytes_next, bytes_start}
-use Rattle.read_characters.proofs.Classes.{by-class}
+use Rattle.read_characters.proofs.Classes.{by_class}
 use Rattle.read_characters.proofs.Runs.{leading_more, leading_stop, flag_falls, flag_stays}
 
 -- the first hexadecimal digit of a character's class
@@ -32,7 +32,7 @@ data Ranked (n : ℕ) (w v : Bool) : Type 0 where
 
 ranked : (b : ℕ) → Ranked (rank b) (in_rule_id b) (space b)
 ranked =
-    by-class (λ c l d r g t p. Ranked (c / 16) (l || d || r) p) (inside refl refl refl) (inside refl refl refl)
+    by_class (λ c l d r g t p. Ranked (c / 16) (l || d || r) p) (inside refl refl refl) (inside refl refl refl)
     (inside refl refl refl) (neither refl refl refl refl refl) (neither refl refl refl refl refl)
     (blank refl refl refl) (neither refl refl refl refl refl)
 
@@ -75,14 +75,14 @@ module _ (s : List ℕ) (p e : ℕ) {n : ℕ} (class : n ≡ class_of (get_or s 
   next r = ap (steady r) (bytes_next s p e h l) ∙ rw (← class)
 
   -- no fall at p; a: none before
-  pub steady-on : (a : Bool) (r : ℕ) → r ≤ n / 16
+  pub steady_on : (a : Bool) (r : ℕ) → r ≤ n / 16
       → (a && steady r (bytes_at s p (e - p))) ≡ (a && steady (n / 16) (bytes_at s (p + 1) (e - (p + 1))))
-  steady-on a r k =
+  steady_on a r k =
       ap (λ (x : Bool). a && x) (next r) ∙ flag_stays a (steady (n / 16) (bytes_at s (p + 1) (e - (p + 1)))) (le-leb r (n / 16) k)
 
   -- a fall at p
-  pub steady-falls : (a : Bool) (r : ℕ) → n / 16 < r → (a && steady r (bytes_at s p (e - p))) ≡ false
-  steady-falls a r k =
+  pub steady_falls : (a : Bool) (r : ℕ) → n / 16 < r → (a && steady r (bytes_at s p (e - p))) ≡ false
+  steady_falls a r k =
       ap (λ (x : Bool). a && x) (next r) ∙ flag_falls a (steady (n / 16) (bytes_at s (p + 1) (e - (p + 1)))) (lt-leb r (n / 16) k)
 
 -- the Rule ID at i, from the class of its first character and the ranks after it

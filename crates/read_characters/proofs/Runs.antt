@@ -43,15 +43,15 @@ module _ (f : ℕ → Bool) (s : List ℕ) (p e : ℕ) where
       omega arith
 
   -- the byte at p is none of it
-  pub run-stop : p < e → e ≤ length s → f (get_or s p 0) ≡ false → p ≡ p + leading f (bytes_at s p (e - p))
-  run-stop h l t =
+  pub run_stop : p < e → e ≤ length s → f (get_or s p 0) ≡ false → p ≡ p + leading f (bytes_at s p (e - p))
+  run_stop h l t =
       let n : leading f (bytes_at s p (e - p)) ≡ 0
       = ap (leading f) (bytes_next s p e h l) ∙ leading_stop f (get_or s p 0) (bytes_at s (p + 1) (e - (p + 1))) t in
       omega arith
 
   -- the end is reached
-  pub run-done : e ≤ p → p ≡ p + leading f (bytes_at s p (e - p))
-  run-done h = rw (bytes_end s p e h) (sym (add-zero p))
+  pub run_done : e ≤ p → p ≡ p + leading f (bytes_at s p (e - p))
+  run_done h = rw (bytes_end s p e h) (sym (add-zero p))
 
 -- a run of the classes lo to hi, where f is their test
 pub run_passed : (f : ℕ → Bool) (lo hi : ℕ) → ((b : ℕ) → f b ≡ of_class lo hi b) → (bs : List ℕ) (i : ℕ) {p : ℕ}
@@ -70,12 +70,12 @@ left_at s i e {p} k ends w l =
 -- the run of f in front of the bytes, which are those from i on, ends at p
 module _ (f : ℕ → Bool) (bs : List ℕ) (i : ℕ) {p : ℕ} (run : p ≡ i + leading f bs) where
   -- no byte passes
-  pub reach-none : p ≡ i → reach f bs ≡ 0
-  reach-none h = rw (eq-eqb (leading f bs) 0 (omega arith), reach)
+  pub reach_none : p ≡ i → reach f bs ≡ 0
+  reach_none h = rw (eq-eqb (leading f bs) 0 (omega arith), reach)
 
   -- one or more pass
-  pub reach-some : (p ≡ i → ⊥) → reach f bs ≡ (p - i) + leading space (drop (p - i) bs)
-  reach-some h =
+  pub reach_some : (p ≡ i → ⊥) → reach f bs ≡ (p - i) + leading space (drop (p - i) bs)
+  reach_some h =
       let n : leading f bs ≡ p - i = omega arith in
       is_false (eqb (leading f bs) 0) 0 (leading f bs + leading space (drop (leading f bs) bs))
       (ne_eqb (leading f bs) 0 (λ z. h (omega arith))) ∙ rw n
@@ -97,7 +97,7 @@ module _ (f : ℕ → Bool) (s : List ℕ) (p e : ℕ) (h : p < e) (l : e ≤ le
       ∙ flag_stays a (every f (bytes_at s (p + 1) (e - (p + 1)))) t
 
   -- the byte at p does not pass
-  pub every-less : f (get_or s p 0) ≡ false → (a && every f (bytes_at s p (e - p))) ≡ false
-  every-less t =
+  pub every_less : f (get_or s p 0) ≡ false → (a && every f (bytes_at s p (e - p))) ≡ false
+  every_less t =
       ap (λ (bs : List ℕ). a && every f bs) (bytes_next s p e h l)
       ∙ flag_falls a (every f (bytes_at s (p + 1) (e - (p + 1)))) t

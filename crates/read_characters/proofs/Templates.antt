@@ -16,7 +16,7 @@ use Rattle.format.specs.Forms.{leading, digit, star, space, in_label, plain_labe
 use Rattle.read_characters.specs.Classes.{class_of, of_class, label_class, digit_class, star_class}
 use Rattle.read_characters.specs.Templates.{star_after}
 use Rattle.read_fields.proofs.Lists.{bytes_end, bytes_next, bytes_start}
-use Rattle.read_characters.proofs.Classes.{by-class, plain_class, star_class_is}
+use Rattle.read_characters.proofs.Classes.{by_class, plain_class, star_class_is}
 use Rattle.read_characters.proofs.Runs.{leading_more, leading_stop, run_passed, left_at}
 
 -- ---- the sorts of characters: a plain one, a star, one that stands in no label template
@@ -29,7 +29,7 @@ data Sort (w q t v : Bool) : Type 0 where
 
 sort : (b : ℕ) → Sort (in_label b) (plain_label b) (star b) (space b)
 sort =
-    by-class (λ c l d r g t p. Sort (l || d || g || t) (l || d || g) t p) (is_plain refl refl refl refl)
+    by_class (λ c l d r g t p. Sort (l || d || g || t) (l || d || g) t p) (is_plain refl refl refl refl)
     (is_plain refl refl refl refl) (neither refl refl refl) (is_plain refl refl refl refl)
     (is_star refl refl refl refl) (neither refl refl refl) (neither refl refl refl)
 
@@ -54,11 +54,11 @@ abbrev star_last : ℕ → List ℕ → Bool
 star_last b bs = star (get_or (b ∷ bs) (leading in_label bs) 0)
 
 module _ (b : ℕ) (bs : List ℕ) (e : in_label b ≡ true) where
-  stars-more : star b ≡ true → stars (b ∷ bs) ≡ suc (stars bs)
-  stars-more s = rw (leading_more in_label b bs e, many_yes star b _ s) (one-add (stars bs))
+  stars_more : star b ≡ true → stars (b ∷ bs) ≡ suc (stars bs)
+  stars_more s = rw (leading_more in_label b bs e, many_yes star b _ s) (one-add (stars bs))
 
-  stars-same : star b ≡ false → stars (b ∷ bs) ≡ stars bs
-  stars-same s = rw (leading_more in_label b bs e, many_no star b _ s) (zero-add (stars bs))
+  stars_same : star b ≡ false → stars (b ∷ bs) ≡ stars bs
+  stars_same s = rw (leading_more in_label b bs e, many_no star b _ s) (zero-add (stars bs))
 
 -- no star among them
 no_star : (bs : List ℕ) → (spaces_after bs && eqb (stars bs) 0) ≡ every space (drop (leading plain_label bs) bs)
@@ -66,9 +66,9 @@ no_star [] = refl
 no_star (x ∷ xs) =
     elim (sort x) [
       | is_plain e p s w ↦
-          rw (stars-same x xs e s, leading_more in_label x xs e, leading_more plain_label x xs p) (no_star xs)
+          rw (stars_same x xs e s, leading_more in_label x xs e, leading_more plain_label x xs p) (no_star xs)
       | is_star e p s w ↦
-          rw (stars-more x xs e s, leading_stop plain_label x xs p, eqb-suc-zero (stars xs), w) (simp and-false)
+          rw (stars_more x xs e s, leading_stop plain_label x xs p, eqb-suc-zero (stars xs), w) (simp and-false)
       | neither e p s ↦ rw (leading_stop in_label x xs e, leading_stop plain_label x xs p) (simp and-true)
     ]
 
@@ -78,8 +78,8 @@ star_before : (b : ℕ) (bs : List ℕ)
 star_before b [] = sym (and-true (star b))
 star_before b (x ∷ xs) =
     elim (sort x) [
-      | is_plain e p s w ↦ rw (stars-same x xs e s, leading_more in_label x xs e, star_before x xs, s, w) (simp and-false)
-      | is_star e p s w ↦ rw (stars-more x xs e s, eqb-suc-zero (stars xs), w) (simp and-false)
+      | is_plain e p s w ↦ rw (stars_same x xs e s, leading_more in_label x xs e, star_before x xs, s, w) (simp and-false)
+      | is_star e p s w ↦ rw (stars_more x xs e s, eqb-suc-zero (stars xs), w) (simp and-false)
       | neither e p s ↦ rw (leading_stop in_label x xs e, and-true) (and_comm (every space (x ∷ xs)) (star b))
     ]
 
@@ -98,9 +98,9 @@ one_star_is b [] = refl
 one_star_is b (x ∷ xs) =
     elim (sort x) [
       | is_plain e p s w ↦
-          rw (stars-same x xs e s, leading_more in_label x xs e, leading_more plain_label x xs p) (one_star_is x xs)
+          rw (stars_same x xs e s, leading_more in_label x xs e, leading_more plain_label x xs p) (one_star_is x xs)
       | is_star e p s w ↦
-          rw (stars-more x xs e s, leading_more in_label x xs e, leading_stop plain_label x xs p, eqb-suc-zero (stars xs))
+          rw (stars_more x xs e s, leading_more in_label x xs e, leading_stop plain_label x xs p, eqb-suc-zero (stars xs))
           (rw (leb_one (stars xs), star_before x xs, s, one_star))
       | neither e p s ↦
           rw (leading_stop in_label x xs e, leading_stop plain_label x xs p, s, one_star) (simp and-true)
@@ -131,10 +131,10 @@ label_split b bs =
     rw (body_left b bs)
     (elim (sort b) [
       | is_plain e p s w ↦
-          rw (stars-same b bs e s, leading_more in_label b bs e, e, s, leb-suc-suc, leb-zero, suc-sub-suc, sub-zero)
+          rw (stars_same b bs e s, leading_more in_label b bs e, e, s, leb-suc-suc, leb-zero, suc-sub-suc, sub-zero)
           (rw (or-false, first_out (not (digit b)), one_star_is b bs))
       | is_star e p s w ↦
-          rw (stars-more b bs e s, leading_more in_label b bs e, e, s, leb_one (stars bs), leb-suc-suc, leb-zero)
+          rw (stars_more b bs e s, leading_more in_label b bs e, e, s, leb_one (stars bs), leb-suc-suc, leb-zero)
           (rw (eqb-suc-zero (stars bs), first_out (not (digit b)), and-true, no_star bs))
       | neither e p s ↦ rw (leading_stop in_label b bs e, e)
     ])
@@ -196,12 +196,12 @@ module _ (s : List ℕ) (p e first : ℕ) (n : first ≡ star_class → ⊥) whe
 
   module _ (h : p < e) (l : e ≤ length s) where
     -- no star in front
-    pub no-star-left : star (get_or s p 0) ≡ false → p ≡ p + star_after (eqb first star_class) (bytes_at s p (e - p))
-    no-star-left t = rw (ne_eqb first star_class n, bytes_next s p e h l, t, one_star) (sym (add-zero p))
+    pub no_star_left : star (get_or s p 0) ≡ false → p ≡ p + star_after (eqb first star_class) (bytes_at s p (e - p))
+    no_star_left t = rw (ne_eqb first star_class n, bytes_next s p e h l, t, one_star) (sym (add-zero p))
 
     -- a star in front
-    pub star-left : star (get_or s p 0) ≡ true → p + 1 ≡ p + star_after (eqb first star_class) (bytes_at s p (e - p))
-    star-left t = rw (ne_eqb first star_class n, bytes_next s p e h l, t, one_star)
+    pub star_left : star (get_or s p 0) ≡ true → p + 1 ≡ p + star_after (eqb first star_class) (bytes_at s p (e - p))
+    star_left t = rw (ne_eqb first star_class n, bytes_next s p e h l, t, one_star)
 
 -- the label template in the 64 bytes at i
 module _ (s : List ℕ) (i : ℕ) (l : i + 64 ≤ length s) where
@@ -212,13 +212,13 @@ module _ (s : List ℕ) (i : ℕ) (l : i + 64 ≤ length s) where
   whole : bytes_at s i 64 ≡ get_or s i 0 ∷ bytes_at s (i + 1) (i + 64 - (i + 1))
   whole = sym (bytes_start s i 64) ∙ apart
 
-  pub label-told : let b = get_or s i 0 in let bs = bytes_at s i (i + 64 - i) in
+  pub label_told : let b = get_or s i 0 in let bs = bytes_at s i (i + 64 - i) in
       label_form (bytes_at s i 64) ≡ ((in_label b && not (digit b)) && every space (drop (body bs) bs))
-  label-told = rw (apart, whole) (label_split (get_or s i 0) (bytes_at s (i + 1) (i + 64 - (i + 1))))
+  label_told = rw (apart, whole) (label_split (get_or s i 0) (bytes_at s (i + 1) (i + 64 - (i + 1))))
 
-  pub place-told : let b = get_or s i 0 in let bs = bytes_at s i (i + 64 - i) in
+  pub place_told : let b = get_or s i 0 in let bs = bytes_at s i (i + 64 - i) in
       label_reach (bytes_at s i 64) ≡ given (in_label b && not (digit b)) (body bs + leading space (drop (body bs) bs))
-  place-told = rw (apart, whole) (place_split (get_or s i 0) (bytes_at s (i + 1) (i + 64 - (i + 1))))
+  place_told = rw (apart, whole) (place_split (get_or s i 0) (bytes_at s (i + 1) (i + 64 - (i + 1))))
 
   -- its characters end at q: the first, of this class, plain ones up to p, then a star where one may stand
   pub label_end : {first p q : ℕ} → first ≡ class_of (get_or s i 0)

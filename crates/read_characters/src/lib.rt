@@ -1,5 +1,7 @@
 // Internal: characters by the page of them, Rule IDs and label templates. Each function asks that its bytes are there, and that what
 // is lent as the page is it.
+#![tactic(auto)]
+
 pub mod page; // page.rt: the page of characters
 
 ghost use Rattle.std.specs.Prelude.{◌≡◌, not, ◌&&◌, ℕ, ◌+◌, ◌-◌, ◌≤◌, eqb, length, drop};

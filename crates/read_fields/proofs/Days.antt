@@ -39,9 +39,9 @@ date_of y m d = leb y 9999 && between 1 12 m && between 1 (days_in y m) d
 
 -- the year is the number in the first two bytes, the month the third byte and the day the fourth
 module _ (s : List ℕ) (i : ℕ) {y : ℕ} (e : y ≡ number (bytes_at s i 2)) where
-  date-at : date_exists (bytes_at s i 4) ≡ date_of y (get_or s (i + 2) 0) (get_or s (i + 3) 0)
+  date_at : date_exists (bytes_at s i 4) ≡ date_of y (get_or s (i + 2) 0) (get_or s (i + 3) 0)
   unfolding date_exists
-  date-at =
+  date_at =
       let d = bytes_at s i 4 in
       let a : number (take 2 d) ≡ y = ap number (bytes_take s i 4 2 (omega arith)) ∙ sym e in
       let b : get_or d 2 0 ≡ get_or s (i + 2) 0 = bytes_get s i 4 2 (omega arith) in
@@ -50,24 +50,24 @@ module _ (s : List ℕ) (i : ℕ) {y : ℕ} (e : y ≡ number (bytes_at s i 2)) 
       ∙ ap (λ (x : ℕ). date_of y x (get_or d 3 0)) b
       ∙ ap (date_of y (get_or s (i + 2) 0)) c
 
-  pub late-year : 9999 < y → date_exists (bytes_at s i 4) ≡ false
-  late-year h = date-at ∙ rw (lt-leb y 9999 h)
+  pub late_year : 9999 < y → date_exists (bytes_at s i 4) ≡ false
+  late_year h = date_at ∙ rw (lt-leb y 9999 h)
 
   module _ (h : y ≤ 9999) where
-    pub no-month : get_or s (i + 2) 0 < 1 → date_exists (bytes_at s i 4) ≡ false
-    no-month k = date-at ∙ rw (le-leb y 9999 h, lt-leb 1 (get_or s (i + 2) 0) k)
+    pub no_month : get_or s (i + 2) 0 < 1 → date_exists (bytes_at s i 4) ≡ false
+    no_month k = date_at ∙ rw (le-leb y 9999 h, lt-leb 1 (get_or s (i + 2) 0) k)
 
     module _ (k : 1 ≤ get_or s (i + 2) 0) where
-      pub late-month : 12 < get_or s (i + 2) 0 → date_exists (bytes_at s i 4) ≡ false
-      late-month l = date-at ∙ rw (le-leb y 9999 h, le-leb 1 (get_or s (i + 2) 0) k, lt-leb (get_or s (i + 2) 0) 12 l)
+      pub late_month : 12 < get_or s (i + 2) 0 → date_exists (bytes_at s i 4) ≡ false
+      late_month l = date_at ∙ rw (le-leb y 9999 h, le-leb 1 (get_or s (i + 2) 0) k, lt-leb (get_or s (i + 2) 0) 12 l)
 
       module _ (l : get_or s (i + 2) 0 ≤ 12) where
-        month-there : date_exists (bytes_at s i 4) ≡ between 1 (days_in y (get_or s (i + 2) 0)) (get_or s (i + 3) 0)
-        month-there = date-at ∙ rw (le-leb y 9999 h, le-leb 1 (get_or s (i + 2) 0) k, le-leb (get_or s (i + 2) 0) 12 l)
+        month_there : date_exists (bytes_at s i 4) ≡ between 1 (days_in y (get_or s (i + 2) 0)) (get_or s (i + 3) 0)
+        month_there = date_at ∙ rw (le-leb y 9999 h, le-leb 1 (get_or s (i + 2) 0) k, le-leb (get_or s (i + 2) 0) 12 l)
 
-        pub no-day : get_or s (i + 3) 0 < 1 → date_exists (bytes_at s i 4) ≡ false
-        no-day m = month-there ∙ rw (lt-leb 1 (get_or s (i + 3) 0) m)
+        pub no_day : get_or s (i + 3) 0 < 1 → date_exists (bytes_at s i 4) ≡ false
+        no_day m = month_there ∙ rw (lt-leb 1 (get_or s (i + 3) 0) m)
 
-        pub day-there : {d : ℕ} → 1 ≤ get_or s (i + 3) 0 → d ≡ days_in y (get_or s (i + 2) 0)
+        pub day_there : {d : ℕ} → 1 ≤ get_or s (i + 3) 0 → d ≡ days_in y (get_or s (i + 2) 0)
             → date_exists (bytes_at s i 4) ≡ leb (get_or s (i + 3) 0) d
-        day-there m n = month-there ∙ rw (le-leb 1 (get_or s (i + 3) 0) m, n)
+        day_there m n = month_there ∙ rw (le-leb 1 (get_or s (i + 3) 0) m, n)

@@ -25,8 +25,8 @@ shift c a b =
 
 module _ (xs ys : List ℕ) (l : length xs ≡ length ys) where
   -- the first bytes differ
-  first-less : (a b : ℕ) → Bytes xs → a < b → number (a ∷ xs) < number (b ∷ ys)
-  first-less a b small h =
+  first_less : (a b : ℕ) → Bytes xs → a < b → number (a ∷ xs) < number (b ∷ ys)
+  first_less a b small h =
       let w = 256 ^ length xs in
       let m : suc a * w ≤ b * w = mul-le-mul_right w h in
       let z : number (b ∷ ys) ≡ b * w + number ys = number_first b ys
@@ -34,8 +34,8 @@ module _ (xs ys : List ℕ) (l : length xs ≡ length ys) where
       omega (arith, m, suc-mul a w, number_first a xs, number_below xs small)
 
   -- the first bytes are the same
-  first-same : (a : ℕ) → ltb (number (a ∷ xs)) (number (a ∷ ys)) ≡ ltb (number xs) (number ys)
-  first-same a =
+  first_same : (a : ℕ) → ltb (number (a ∷ xs)) (number (a ∷ ys)) ≡ ltb (number xs) (number ys)
+  first_same a =
       ap (λ (k : ℕ). ltb k (number (a ∷ ys))) (number_first a xs)
       ∙ ap (λ (k : ℕ). ltb (a * 256 ^ length xs + number xs) k)
       (number_first a ys ∙ ap (λ (k : ℕ). a * 256 ^ k + number ys) (sym l))
@@ -50,33 +50,33 @@ less_done a b p h k = rw (drop_of_length-le a {i = p} h, drop_of_length-le b {i 
 
 module _ (a b : List ℕ) (p : ℕ) (l : length a ≡ length b) (h : p < length a) where
   -- what is left of both begins with the bytes at p
-  next-a : drop p a ≡ get_or a p 0 ∷ drop (suc p) a
-  next-a = drop-cons a p 0 h
+  next_a : drop p a ≡ get_or a p 0 ∷ drop (suc p) a
+  next_a = drop-cons a p 0 h
 
-  next-b : drop p b ≡ get_or b p 0 ∷ drop (suc p) b
-  next-b = drop-cons b p 0 (omega arith)
+  next_b : drop p b ≡ get_or b p 0 ∷ drop (suc p) b
+  next_b = drop-cons b p 0 (omega arith)
 
-  left-same : length (drop (suc p) a) ≡ length (drop (suc p) b)
-  left-same = let m = length-drop (suc p) a in let n = length-drop (suc p) b in omega arith
+  left_same : length (drop (suc p) a) ≡ length (drop (suc p) b)
+  left_same = let m = length-drop (suc p) a in let n = length-drop (suc p) b in omega arith
 
   -- the byte of a is less
-  pub less-here : Bytes a → get_or a p 0 < get_or b p 0 → ltb (number (drop p a)) (number (drop p b)) ≡ true
-  less-here small d =
-      let g = first-less (drop (suc p) a) (drop (suc p) b) left-same (get_or a p 0) (get_or b p 0) (bytes_drop (suc p) a small) d in
-      rw (next-a, next-b) (lt-ltb _ _ g)
+  pub less_here : Bytes a → get_or a p 0 < get_or b p 0 → ltb (number (drop p a)) (number (drop p b)) ≡ true
+  less_here small d =
+      let g = first_less (drop (suc p) a) (drop (suc p) b) left_same (get_or a p 0) (get_or b p 0) (bytes_drop (suc p) a small) d in
+      rw (next_a, next_b) (lt-ltb _ _ g)
 
   -- the byte of b is less
-  pub more-here : Bytes b → get_or b p 0 < get_or a p 0 → ltb (number (drop p a)) (number (drop p b)) ≡ false
-  more-here small d =
-      let g = first-less (drop (suc p) b) (drop (suc p) a) (sym left-same) (get_or b p 0) (get_or a p 0) (bytes_drop (suc p) b small) d in
-      rw (next-a, next-b) (le-ltb _ _ (le_of_lt g))
+  pub more_here : Bytes b → get_or b p 0 < get_or a p 0 → ltb (number (drop p a)) (number (drop p b)) ≡ false
+  more_here small d =
+      let g = first_less (drop (suc p) b) (drop (suc p) a) (sym left_same) (get_or b p 0) (get_or a p 0) (bytes_drop (suc p) b small) d in
+      rw (next_a, next_b) (le-ltb _ _ (le_of_lt g))
 
   -- the two are the same
   pub same_here : get_or a p 0 ≡ get_or b p 0
       → ltb (number (drop (p + 1) a)) (number (drop (p + 1) b)) ≡ ltb (number (drop p a)) (number (drop p b))
   same_here d =
       let e : p + 1 ≡ suc p = omega arith in
-      rw (e, next-a, next-b, d) (sym (first-same (drop (suc p) a) (drop (suc p) b) left-same (get_or b p 0)))
+      rw (e, next_a, next_b, d) (sym (first_same (drop (suc p) a) (drop (suc p) b) left_same (get_or b p 0)))
 
 -- ---- numbers of two lengths
 
@@ -95,16 +95,16 @@ module _ (s : List ℕ) (m : ℕ) (h : m ≤ length s) where
       ∙ ap (λ (y : List ℕ). number (bytes_at s 0 d) * 256 ^ m + number y) (take_all m (drop d s) (omega arith))
 
   -- zeros in front change no number
-  pub front-zero : all_zero (bytes_at s 0 (length s - m)) ≡ true → number s ≡ number (drop (length s - m) s)
-  front-zero t =
+  pub front_zero : all_zero (bytes_at s 0 (length s - m)) ≡ true → number s ≡ number (drop (length s - m) s)
+  front_zero t =
       let v = number (bytes_at s 0 (length s - m)) in
       let z : v ≡ 0 = eqb-true v 0 (sym (zero_number (bytes_at s 0 (length s - m))) ∙ t) in
       let q : v * 256 ^ m ≡ 0 = ap (λ (k : ℕ). k * 256 ^ m) z ∙ zero-mul (256 ^ m) in
       omega (arith, parts)
 
   -- anything else in front makes it more than m bytes can hold
-  pub front-some : all_zero (bytes_at s 0 (length s - m)) ≡ false → 256 ^ m ≤ number s
-  front-some t =
+  pub front_some : all_zero (bytes_at s 0 (length s - m)) ≡ false → 256 ^ m ≤ number s
+  front_some t =
       let v = number (bytes_at s 0 (length s - m)) in
       let z : 0 < v = pos_of_ne-zero (eqb-false v 0 (sym (zero_number (bytes_at s 0 (length s - m))) ∙ t)) in
       let q : 1 * 256 ^ m ≤ v * 256 ^ m = mul-le-mul_right (256 ^ m) z in

@@ -102,29 +102,29 @@ bits_first s small bits h e =
 
 -- the modulus, by its first and its last byte
 module _ (s : List ℕ) (small : Bytes s) (bits : ℕ) (h : 1 ≤ bits) (e : length s ≡ (bits + 7) / 8) where
-  modulus-ends : modulus_form bits s ≡ (eqb (get_or s 0 0 / 2 ^ ((bits - 1) % 8)) 1 && eqb (get_or s (length s - 1) 0 % 2) 1)
+  modulus_ends : modulus_form bits s ≡ (eqb (get_or s 0 0 / 2 ^ ((bits - 1) % 8)) 1 && eqb (get_or s (length s - 1) 0 % 2) 1)
   unfolding modulus_form
-  modulus-ends =
+  modulus_ends =
       ap (λ (x : Bool). x && odd (number s)) (bits_first s small bits h e)
       ∙ ap (λ (x : Bool). eqb (get_or s 0 0 / 2 ^ ((bits - 1) % 8)) 1 && x) (odd_last s (omega arith))
 
   -- too few bits, or too many
-  pub modulus-not : (get_or s 0 0 / 2 ^ ((bits - 1) % 8) ≡ 1 → ⊥) → modulus_form bits s ≡ false
-  modulus-not k =
-      modulus-ends
+  pub modulus_not : (get_or s 0 0 / 2 ^ ((bits - 1) % 8) ≡ 1 → ⊥) → modulus_form bits s ≡ false
+  modulus_not k =
+      modulus_ends
       ∙ ap (λ (x : Bool). x && eqb (get_or s (length s - 1) 0 % 2) 1) (ne_eqb (get_or s 0 0 / 2 ^ ((bits - 1) % 8)) 1 k)
 
   -- as many as are asked: the last byte decides
-  pub modulus-last : get_or s 0 0 / 2 ^ ((bits - 1) % 8) ≡ 1 → modulus_form bits s ≡ eqb (get_or s (length s - 1) 0 % 2) 1
-  modulus-last k =
-      modulus-ends
+  pub modulus_last : get_or s 0 0 / 2 ^ ((bits - 1) % 8) ≡ 1 → modulus_form bits s ≡ eqb (get_or s (length s - 1) 0 % 2) 1
+  modulus_last k =
+      modulus_ends
       ∙ ap (λ (x : Bool). x && eqb (get_or s (length s - 1) 0 % 2) 1) (eq-eqb (get_or s 0 0 / 2 ^ ((bits - 1) % 8)) 1 k)
 
   -- its first byte is not 0
-  pub modulus-first : modulus_form bits s ≡ true → 1 ≤ get_or s 0 0
-  modulus-first t =
+  pub modulus_first : modulus_form bits s ≡ true → 1 ≤ get_or s 0 0
+  modulus_first t =
       let v = get_or s 0 0 in
       let m = 2 ^ ((bits - 1) % 8) in
-      let one = eqb-true (v / m) 1 (and_split (eqb (v / m) 1) (eqb (get_or s (length s - 1) 0 % 2) 1) (sym modulus-ends ∙ t)).0 in
+      let one = eqb-true (v / m) 1 (and_split (eqb (v / m) 1) (eqb (get_or s (length s - 1) 0 % 2) 1) (sym modulus_ends ∙ t)).0 in
       let q : v / m * m ≡ m = ap (λ (k : ℕ). k * m) one ∙ one-mul m in
       omega (arith, div-add-mod' v m, q, pow_pos ((bits - 1) % 8))

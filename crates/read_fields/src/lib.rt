@@ -1,5 +1,7 @@
 // Internal: the readings of single fields, but those of characters. Each asks that its bytes are there. Numbers stand here, dates
 // and keys in modules of their own.
+#![tactic(auto)]
+
 pub mod dates; // dates.rt: dates that exist, and their order
 pub mod keys; // keys.rt: lengths of keys, the modulus and the exponent of the public key
 

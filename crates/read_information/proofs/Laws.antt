@@ -9,7 +9,7 @@ use lib.Dec.{eqb}
 use lib.ListN.{drop}
 use borrow.Author.Tests.{ne_eqb}
 use Rattle.format.specs.Bytes.{number, bytes_at}
-use Rattle.format.specs.Parts.{Kind, information, protection, dates, tokenParameters, same_kind, Part}
+use Rattle.format.specs.Parts.{Kind, information, protection, dates, token_parameters, same_kind, Part}
 use Rattle.format.specs.Reading.{subsection_kind, found, fault, need, as_answer, stated, part_in, after_subsections, section_rest}
 use Rattle.format.specs.Rules.{mask_covers}
 use Rattle.format.specs.declared.Answer.TheVariants.{Accepted, Refused}
@@ -19,7 +19,7 @@ use Rattle.format.proofs.Turns.{subsections_from, subs_none}
 use Rattle.read_sections.specs.Refusals.{sub_refusal, section_rows}
 use Rattle.read_information.specs.Loops.{InformationRead}
 use Rattle.read_sections.proofs.Heads.{section_rest_is}
-use Rattle.read_sections.proofs.Subs.{GoesOn, loop-room, loop-on, has_last, kind_other, length_last}
+use Rattle.read_sections.proofs.Subs.{GoesOn, loop_room, loop_on, has_last, kind_other, length_last}
 
 -- ---- the tags of section 14
 
@@ -47,20 +47,20 @@ module _ {s : List ℕ} {p e : ℕ} {x : Bool} {q n : ℕ} {protected dated : Bo
     {m t g : ℕ} (f : m ≡ sub_refusal x information w.done (e - q) (drop q s)) (z : m ≡ 0) (l : t ≡ number (bytes_at s (q + 2) 2))
     (tag : g ≡ number (bytes_at s q 2)) where
   on : GoesOn s x information w.done q e h t
-  on = loop-on s x information w.done q e h f z l
+  on = loop_on s x information w.done q e h f z l
 
   -- One subsection more is read, of kind k.
   turn : {protected' dated' : Bool} (k : Kind) → on.kind ≡ k → protected' ≡ (protected || same_kind protection k) → dated' ≡ (dated || same_kind dates k)
-      → same_kind tokenParameters k ≡ false → InformationRead s p e x (q + t) (n + 1) protected' dated'
+      → same_kind token_parameters k ≡ false → InformationRead s p e x (q + t) (n + 1) protected' dated'
   turn k same a b c =
       let u : Part = part_in on.kind (drop q s) in
-      let r = loop-room s x information w.done q e h f z in
+      let r = loop_room s x information w.done q e h f z in
       let last = length_last w.done u in
       record {
         done = w.done ++ u ∷ [];
         protections = has_last protection w.done u ∙ ap₂ (λ (y z : Bool). y || z) w.protections (ap (same_kind protection) same) ∙ sym a;
         dateds = has_last dates w.done u ∙ ap₂ (λ (y z : Bool). y || z) w.dateds (ap (same_kind dates) same) ∙ sym b;
-        unmasked = kind_other tokenParameters w.done u (ap (same_kind tokenParameters) same ∙ c) ∙ w.unmasked;
+        unmasked = kind_other token_parameters w.done u (ap (same_kind token_parameters) same ∙ c) ∙ w.unmasked;
         rows = omega (arith, w.rows);
         few = omega (arith, w.few, r.0);
         ends = omega (arith, r.1);
@@ -79,10 +79,10 @@ module _ {s : List ℕ} {p e : ℕ} {x : Bool} {q n : ℕ} {protected dated : Bo
 module _ {s : List ℕ} {p e : ℕ} {x : Bool} {q n : ℕ} {protected dated : Bool} (full : Bool) (w : InformationRead s p e x q n protected dated)
     (h : e ≤ q) (k : p + 10 ≤ e) (l : e ≡ p + stated (drop p s)) where
   -- What the loop has read when it ends is all of the section, whose 0001 is required.
-  loop-end : section_rest full x information p (drop p s)
+  loop_end : section_rest full x information p (drop p s)
       ≡ need (not full || protected) (fault 20 p p) (found (record { head = part_in information (drop p s); subs = w.done }))
   unfolding after_subsections
-  loop-end =
+  loop_end =
       let zero : e - q ≡ 0 = omega arith in
       section_rest_is full x information s p e k l
       ∙ then_found _ (sym w.same ∙ ap (λ (a : ℕ). subsections_from x information w.done q a (drop q s)) zero ∙ subs_none x information w.done q (drop q s))
@@ -92,8 +92,8 @@ module _ {s : List ℕ} {p e : ℕ} {x : Bool} {q n : ℕ} {protected dated : Bo
   -- The section is accepted with its rows, or refused with 20.
   pub ends_there : (not full || protected) ≡ true → Accepted n ≡ as_answer section_rows (section_rest full x information p (drop p s))
   unfolding as_answer need
-  ends_there b = ap Accepted w.rows ∙ sym (ap (as_answer section_rows) loop-end ∙ rw b)
+  ends_there b = ap Accepted w.rows ∙ sym (ap (as_answer section_rows) loop_end ∙ rw b)
 
-  pub ends-missing : (not full || protected) ≡ false → Refused 20 p ≡ as_answer section_rows (section_rest full x information p (drop p s))
+  pub ends_missing : (not full || protected) ≡ false → Refused 20 p ≡ as_answer section_rows (section_rest full x information p (drop p s))
   unfolding as_answer need
-  ends-missing b = sym (ap (as_answer section_rows) loop-end ∙ rw b)
+  ends_missing b = sym (ap (as_answer section_rows) loop_end ∙ rw b)

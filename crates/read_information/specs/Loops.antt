@@ -1,6 +1,6 @@
 -- Internal: what the loops over subsections have read so far.
 use Rattle.std.specs.Prelude.{◌≡◌, Bool, List, [], ℕ, suc, ◌+◌, ◌-◌, ◌≤◌, length, drop}
-use Rattle.format.specs.Parts.{information, protection, dates, tokenParameters, Part}
+use Rattle.format.specs.Parts.{information, protection, dates, token_parameters, Part}
 use Rattle.format.specs.Rules.{has, of_kind}
 use Rattle.format.proofs.Turns.{subsections_from}
 
@@ -10,7 +10,7 @@ pub record InformationRead (s : List ℕ) (p e : ℕ) (x : Bool) (q n : ℕ) (pr
   pub done : List Part
   pub protections : has protection done ≡ protected
   pub dateds : has dates done ≡ dated
-  pub unmasked : of_kind tokenParameters done ≡ []
+  pub unmasked : of_kind token_parameters done ≡ []
   pub rows : n ≡ suc (length done)
   pub few : n + (p + 9) ≤ q
   pub ends : q ≤ e

@@ -1,5 +1,7 @@
 // Internal: the checks of section 14, the information, and of its subsections, protection and dates, each test once and in order. The
 // functions ask that the bytes are there that earlier tests have shown to be there.
+#![tactic(auto)]
+
 ghost use Rattle.std.specs.Prelude.{◌≡◌, Bool, ◌+◌, ◌≤◌, length, drop, List};
 ghost use Rattle.format.specs.Parts.{information, protection, dates, Part};
 ghost use Rattle.format.specs.Bytes.{number, bytes_at};

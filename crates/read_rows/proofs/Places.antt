@@ -151,12 +151,12 @@ starts s ss b e =
 
 module _ {s : List ℕ} {b : Before} {e i : ℕ} where
   -- The bytes of the parts reach to the token's end.
-  pub left-length : {ps : List Part} → Left s b e i ps → b.place + length (write_parts ps) ≡ length s
-  left-length {ps} l = let d = length-drop b.place s in let w = ap length l.bytes in omega (arith, l.front)
+  pub left_length : {ps : List Part} → Left s b e i ps → b.place + length (write_parts ps) ≡ length s
+  left_length {ps} l = let d = length-drop b.place s in let w = ap length l.bytes in omega (arith, l.front)
 
   -- Before it a part begins at the place, and at it none.
   pub begins : (ps : List Part) → Left s b e i ps → b.place < length s → Begins s b e i
-  begins [] l h = absurd (let n = left-length l in omega arith)
+  begins [] l h = absurd (let n = left_length l in omega arith)
   begins (q ∷ qs) l h = record { part = q; behind = qs; left = l }
 
   -- ---- the part at a place
@@ -169,29 +169,29 @@ module _ {s : List ℕ} {b : Before} {e i : ℕ} where
   four w = let a = there w.part w.behind w.left in omega (arith, a.ends, a.least)
 
   -- A section stands where the one before it ends, a subsection elsewhere.
-  is-section : (q : Part) (qs : List Part) → Left s b e i (q ∷ qs) → b.place ≡ e → is_subsection q.kind ≡ false
-  is-section q qs l h = section_here q qs (omega (arith, l.ends))
+  is_section_is : (q : Part) (qs : List Part) → Left s b e i (q ∷ qs) → b.place ≡ e → is_subsection q.kind ≡ false
+  is_section_is q qs l h = section_here q qs (omega (arith, l.ends))
 
-  is-sub : (q : Part) (qs : List Part) → Left s b e i (q ∷ qs) → (b.place ≡ e → ⊥) → is_subsection q.kind ≡ true
-  is-sub q qs l h = sub_here q qs (λ z. h (omega (arith, l.ends)))
+  is_sub : (q : Part) (qs : List Part) → Left s b e i (q ∷ qs) → (b.place ≡ e → ⊥) → is_subsection q.kind ≡ true
+  is_sub q qs l h = sub_here q qs (λ z. h (omega (arith, l.ends)))
 
   -- The id of the section at the place.
   id_at_is : (q : Part) (qs : List Part) → Left s b e i (q ∷ qs) → b.place ≡ e → get_or s b.place 0 ≡ section_id q.kind
   id_at_is q qs l h =
       let a = there q qs l in
-      id_here s b.place q qs a (is-section q qs l h) (omega (arith, a.ends, a.least))
+      id_here s b.place q qs a (is_section_is q qs l h) (omega (arith, a.ends, a.least))
 
   pub id_below : (w : Begins s b e i) → b.place ≡ e → get_or s b.place 0 < 256
   id_below w h = let k = id_at_is w.part w.behind w.left h in omega (arith, k, id_byte w.part.kind)
 
   -- ---- its row
 
-  pub section-row : (q : Part) (qs : List Part) → Left s b e i (q ∷ qs) → b.place ≡ e → {l n : ℕ}
+  pub section_row : (q : Part) (qs : List Part) → Left s b e i (q ∷ qs) → b.place ≡ e → {l n : ℕ}
       → l ≡ number (bytes_at s (b.place + 2) 2) → n ≡ rule_in (get_or s b.place 0) (rules_with (get_or s b.place 0) b.rules)
       → ◌≡◌ {A = Row}
       (record { kind = get_or s b.place 0 * 65536; offset = b.place; length = l; owner = b.rows; rule = n }) (part_row b q qs)
-  section-row q qs y h el en =
-      let f = is-section q qs y h in
+  section_row q qs y h el en =
+      let f = is_section_is q qs y h in
       let k = id_at_is q qs y h in
       row_same _ (part_row b q qs) (omega (arith, k, no_tag q.kind f)) refl (stated_here s b.place q qs (there q qs y) el)
       (sym (is_false (is_subsection q.kind) b.section b.rows f))
@@ -202,7 +202,7 @@ module _ {s : List ℕ} {b : Before} {e i : ℕ} where
       → ◌≡◌ {A = Row}
       (record { kind = i * 65536 + g; offset = b.place; length = l; owner = b.section; rule = n }) (part_row b q qs)
   sub_row q qs y h el eg en =
-      let f = is-sub q qs y h in
+      let f = is_sub q qs y h in
       let k = joins_first i q qs y.owned f in
       let t = tag_here s b.place q qs (there q qs y) f eg in
       row_same _ (part_row b q qs) (omega (arith, k, t)) refl (stated_here s b.place q qs (there q qs y) el)
@@ -212,13 +212,13 @@ module _ {s : List ℕ} {b : Before} {e i : ℕ} where
   -- ---- the place after it
 
   -- After a section: it ends where its length says, and is in the row that was next.
-  pub section-after : (q : Part) (qs : List Part) → Left s b e i (q ∷ qs) → b.place ≡ e → {l m n : ℕ}
+  pub section_after : (q : Part) (qs : List Part) → Left s b e i (q ∷ qs) → b.place ≡ e → {l m n : ℕ}
       → l ≡ number (bytes_at s (b.place + 2) 2) → m ≡ own_length (get_or s b.place 0) l → n ≡ rules_with (get_or s b.place 0) b.rules
       → (◌≡◌ {A = Before} (record { place = b.place + m; rows = b.rows + 1; section = b.rows; rules = n }) (after b q))
       × Left s (after b q) (b.place + l) (get_or s b.place 0) qs
-  section-after q qs y h {l} {m} {n} el em en =
+  section_after q qs y h {l} {m} {n} el em en =
       let a = there q qs y in
-      let f = is-section q qs y h in
+      let f = is_section_is q qs y h in
       let el' : l ≡ span q qs = stated_here s b.place q qs a el in
       let k : get_or s b.place 0 ≡ section_id q.kind = id_at_is q qs y h in
       let j = joins_behind i q qs y.owned in
@@ -243,13 +243,13 @@ module _ {s : List ℕ} {b : Before} {e i : ℕ} where
       )
 
   -- After a subsection: the section goes on.
-  pub sub-after : (q : Part) (qs : List Part) → Left s b e i (q ∷ qs) → (b.place ≡ e → ⊥) → {l : ℕ}
+  pub sub_after : (q : Part) (qs : List Part) → Left s b e i (q ∷ qs) → (b.place ≡ e → ⊥) → {l : ℕ}
       → l ≡ number (bytes_at s (b.place + 2) 2)
       → (◌≡◌ {A = Before} (record { place = b.place + l; rows = b.rows + 1; section = b.section; rules = b.rules }) (after b q))
       × Left s (after b q) e i qs
-  sub-after q qs y h {l} el =
+  sub_after q qs y h {l} el =
       let a = there q qs y in
-      let f = is-sub q qs y h in
+      let f = is_sub q qs y h in
       let el' : l ≡ size q = stated_here s b.place q qs a el ∙ span_sub q qs f in
       let k : section_id q.kind ≡ i = joins_first i q qs y.owned f in
       let o : owner_of b q ≡ b.section = is_true (is_subsection q.kind) b.section b.rows f in

@@ -18,7 +18,7 @@ use Rattle.format.proofs.Tests.{found_inj}
 use Rattle.format.proofs.Finding.{and_split}
 use Rattle.read_rows.specs.Places.{own_length, rules_with, rule_in, Left, Begins}
 use Rattle.read_rows.specs.Filling.{Fillable, IsFilled, Rest, Filling, standing, InSection, bare_rule}
-use Rattle.read_rows.proofs.Places.{own_twenty, in_rule, starts, left-length, there, four, section-row, sub_row, section-after, sub-after}
+use Rattle.read_rows.proofs.Places.{own_twenty, in_rule, starts, left_length, there, four, section_row, sub_row, section_after, sub_after}
 
 -- ---- a turn
 
@@ -52,7 +52,7 @@ module _ {s t₀ t : List ℕ} {b : Before} {e i : ℕ} where
   next w h = go w.parts w.left w.rest
     where
       go : (ps : List Part) → Left s b e i ps → Rest s t₀ t b ps → Next s t₀ t b e i
-      go [] l r = absurd (let n = left-length l in omega arith)
+      go [] l r = absurd (let n = left_length l in omega arith)
       go (q ∷ qs) l r = record {
         here = record { part = q; behind = qs; left = l };
         rest = r;
@@ -60,17 +60,17 @@ module _ {s t₀ t : List ℕ} {b : Before} {e i : ℕ} where
       }
 
   -- A section: its row is its own owner, and it ends where its length says.
-  pub section-on : {u : List ℕ} (w : Next s t₀ t b e i) → b.place ≡ e → {l m n k : ℕ} → l ≡ number (bytes_at s (b.place + 2) 2)
+  pub section_on : {u : List ℕ} (w : Next s t₀ t b e i) → b.place ≡ e → {l m n k : ℕ} → l ≡ number (bytes_at s (b.place + 2) 2)
       → m ≡ own_length (get_or s b.place 0) l → n ≡ rules_with (get_or s b.place 0) b.rules → k ≡ rule_in (get_or s b.place 0) n
       → u ≡ sets t (5 * b.rows) (get_or s b.place 0 * 65536 ∷ b.place ∷ l ∷ b.rows ∷ k ∷ [])
       → (4 ≤ m)
       × Filling s t₀ u (record { place = b.place + m; rows = b.rows + 1; section = b.rows; rules = n }) (b.place + l) (get_or s b.place 0)
-  section-on {u} w h {l} {m} {n} {k} el em en ek eu =
+  section_on {u} w h {l} {m} {n} {k} el em en ek eu =
       let q : Part = w.here.part in
       let qs : List Part = w.here.behind in
       let y = w.here.left in
-      let c = section-after q qs y h el em en in
-      let r = section-row q qs y h el (ek ∙ ap (rule_in (get_or s b.place 0)) en) in
+      let c = section_after q qs y h el em en in
+      let r = section_row q qs y h el (ek ∙ ap (rule_in (get_or s b.place 0)) en) in
       let size' = ap (λ (d : Before). d.place) c.0 in (
         omega (arith, (there q qs y).least),
         record {
@@ -81,15 +81,15 @@ module _ {s t₀ t : List ℕ} {b : Before} {e i : ℕ} where
       )
 
   -- A subsection: its row's owner is the section before it.
-  pub sub-on : {u : List ℕ} (w : Next s t₀ t b e i) → (b.place ≡ e → ⊥) → {l g k : ℕ} → l ≡ number (bytes_at s (b.place + 2) 2)
+  pub sub_on : {u : List ℕ} (w : Next s t₀ t b e i) → (b.place ≡ e → ⊥) → {l g k : ℕ} → l ≡ number (bytes_at s (b.place + 2) 2)
       → g ≡ number (bytes_at s b.place 2) → k ≡ rule_in i b.rules
       → u ≡ sets t (5 * b.rows) ((i * 65536 + g) ∷ b.place ∷ l ∷ b.section ∷ k ∷ [])
       → (4 ≤ l) × Filling s t₀ u (record { place = b.place + l; rows = b.rows + 1; section = b.section; rules = b.rules }) e i
-  sub-on {u} w h {l} {g} {k} el eg ek eu =
+  sub_on {u} w h {l} {g} {k} el eg ek eu =
       let q : Part = w.here.part in
       let qs : List Part = w.here.behind in
       let y = w.here.left in
-      let c = sub-after q qs y h el in
+      let c = sub_after q qs y h el in
       let r = sub_row q qs y h el eg ek in
       let size' = ap (λ (d : Before). d.place) c.0 in (
         omega (arith, (there q qs y).least),
@@ -104,27 +104,27 @@ module _ {s t₀ t : List ℕ} {b : Before} {e i : ℕ} where
 
 module _ {s t₀ t : List ℕ} {n p e kind owner rule rules i : ℕ} where
   -- A part stands before the section's end.
-  sub-next : InSection s t₀ t n p e kind owner rule rules i → p < e → Next s t₀ t (standing p n owner rules) e i
-  sub-next w h = go w.filling.parts w.filling.left w.filling.rest
+  sub_next : InSection s t₀ t n p e kind owner rule rules i → p < e → Next s t₀ t (standing p n owner rules) e i
+  sub_next w h = go w.filling.parts w.filling.left w.filling.rest
     where
       go : (ps : List Part) → Left s (standing p n owner rules) e i ps → Rest s t₀ t (standing p n owner rules) ps → Next s t₀ t (standing p n owner rules) e i
       go [] l r = absurd (let x = l.ends in omega arith)
       go (q ∷ qs) l r = next (record { parts = q ∷ qs; left = l; rest = r }) (let a = there q qs l in omega (arith, a.ends, a.least))
 
   -- What of it is in the token, the numbers before it, and the room for its row.
-  pub sub-inside : InSection s t₀ t n p e kind owner rule rules i → p < e
+  pub sub_inside : InSection s t₀ t n p e kind owner rule rules i → p < e
       → (p + 4 ≤ length s) × (length s ≤ longest) × (n ≤ p) × (kind < 16777216) × (5 * n + 5 ≤ length t)
-  sub-inside w h =
-      let x = sub-next w h in
+  sub_inside w h =
+      let x = sub_next w h in
       let l = x.here.left in
       (four x.here, l.short, l.few, omega (arith, w.kinds, l.byte), x.row)
 
   -- Its row is stored.
-  pub sub-turn : {u : List ℕ} → InSection s t₀ t n p e kind owner rule rules i → p < e → {l g : ℕ}
+  pub sub_turn : {u : List ℕ} → InSection s t₀ t n p e kind owner rule rules i → p < e → {l g : ℕ}
       → l ≡ number (bytes_at s (p + 2) 2) → g ≡ number (bytes_at s p 2) → u ≡ sets t (5 * n) ((kind + g) ∷ p ∷ l ∷ owner ∷ rule ∷ [])
       → (4 ≤ l) × InSection s t₀ u (n + 1) (p + l) e kind owner rule rules i × (length u ≡ length t)
-  sub-turn {u} w h {l} {g} el eg eu =
-      let f = sub-on (sub-next w h) (λ z. omega arith) el eg w.number
+  sub_turn {u} w h {l} {g} el eg eu =
+      let f = sub_on (sub_next w h) (λ z. omega arith) el eg w.number
       (eu ∙ ap (λ (k : ℕ). sets t (5 * n) ((k + g) ∷ p ∷ l ∷ owner ∷ rule ∷ [])) w.kinds) in (
         f.0,
         record { filling = f.1; kinds = w.kinds; number = w.number },
@@ -155,13 +155,13 @@ bare_rule_is i n e t =
     (eqb-true i 0x12 b.0, eqb-true n 20 b.1)
 
 module _ {s t₀ t u : List ℕ} {b : Before} {e i : ℕ} where
-  pub bare-on : (w : Next s t₀ t b e i) → b.place ≡ e → {l n : ℕ} → l ≡ number (bytes_at s (b.place + 2) 2)
+  pub bare_on : (w : Next s t₀ t b e i) → b.place ≡ e → {l n : ℕ} → l ≡ number (bytes_at s (b.place + 2) 2)
       → n ≡ rules_with (get_or s b.place 0) b.rules → get_or s b.place 0 ≡ 0x12 → l ≡ 20
       → u ≡ sets t (5 * b.rows) (0x120000 ∷ b.place ∷ 20 ∷ b.rows ∷ n ∷ [])
       → Filling s t₀ u (standing (b.place + 20) (b.rows + 1) b.rows n) (b.place + 20) (get_or s b.place 0)
-  bare-on w h {l} {n} el en ei l20 eu =
+  bare_on w h {l} {n} el en ei l20 eu =
       let k : 0x120000 ≡ get_or s b.place 0 * 65536 = omega arith in
-      (section-on w h (sym l20 ∙ el) (own_twenty 20 ei) en (in_rule n ei)
+      (section_on w h (sym l20 ∙ el) (own_twenty 20 ei) en (in_rule n ei)
       (eu ∙ ap (λ (x : ℕ). sets t (5 * b.rows) (x ∷ b.place ∷ 20 ∷ b.rows ∷ n ∷ [])) k)).1
 
 -- ---- the start and the end

@@ -1,6 +1,8 @@
 // Internal: which Rule IDs came before. Each is a number that is not 0, and a set of them is kept in 704 places that are
 // lent: a number stands at the place that its hash tells, or after it with no empty place between. 3,500 bytes hold at
 // most 174 rules, so the 192 places after the last hash are enough and the search ends at an empty one.
+#![tactic(auto)]
+
 ghost use Rattle.std.specs.Prelude.{◌≡◌, ◌<◌};
 ghost use Rattle.read_rule_ids.specs.Keys.{hash_of, Room, Put};
 

@@ -1,7 +1,7 @@
 // Internal: the subsections of a rule that hold parameters: 0003, of the export, and 0005, of the token.
 ghost use Rattle.std.specs.Prelude.{◌≡◌, Bool, List, ℕ, ◌+◌, ◌<◌, ◌≤◌, length, drop};
 ghost use Rattle.format.specs.Bytes.{number, bytes_at};
-ghost use Rattle.format.specs.Parts.{exportParameters, tokenParameters};
+ghost use Rattle.format.specs.Parts.{export_parameters, token_parameters};
 ghost use Rattle.format.specs.Rules.{longest, control_length, variant_length};
 ghost use Rattle.format.specs.Reading.{field_checks, subsection_checks};
 ghost use Rattle.read_characters.specs.Page.{Page};
@@ -51,7 +51,7 @@ fn variant_length(n: usize, maximum: u8) -> bool
 // The fields of the subsection 0003 at q, with a variant of x bytes and control vectors of c bytes.
 fn export_fields(s: &[u8], q: usize, x: usize, c: usize) -> u32
     requires { (q + (12 + x + c) ≤ length s.now) × (length s.now ≤ longest) × (x < 256) × (x ≡ number (bytes_at (drop q s.now) 10 1)) × (c ≡ number (bytes_at (drop q s.now) (11 + x) 1)) }
-    ensures { (y : Bool) → result ≡ first_refusal (field_checks y exportParameters (drop q s.now)) }
+    ensures { (y : Bool) → result ≡ first_refusal (field_checks y export_parameters (drop q s.now)) }
 {
     if two(s, q + 5) != 0 {
         return SUBSECTION_RESERVED;
@@ -82,7 +82,7 @@ fn export_fields(s: &[u8], q: usize, x: usize, c: usize) -> u32
 // The subsection 0003 at q, where n bytes are left of its section; seen: one stands before.
 pub fn export_at(s: &[u8], q: usize, n: usize, seen: bool) -> u32
     requires { (4 ≤ n) × (q + n ≤ length s.now) × (length s.now ≤ longest) }
-    ensures { (x : Bool) → result ≡ first_refusal (subsection_checks x exportParameters seen n (drop q s.now)) }
+    ensures { (x : Bool) → result ≡ first_refusal (subsection_checks x export_parameters seen n (drop q s.now)) }
 {
     let h = subsection_head(s, q, n, 12, seen);
     if h != 0 {
@@ -103,7 +103,7 @@ pub fn export_at(s: &[u8], q: usize, n: usize, seen: bool) -> u32
 // The fields of the subsection 0005 at q, with masks of m bytes and a label template of z bytes.
 fn token_fields(s: &[u8], page: &[u8; 256], q: usize, m: usize, z: usize) -> u32
     requires { (q + (10 + m + m + z) ≤ length s.now) × (length s.now ≤ longest) × (m ≡ number (bytes_at (drop q s.now) 8 1)) × (z ≡ number (bytes_at (drop q s.now) (9 + m + m) 1)) × Page page.now }
-    ensures { (x : Bool) → result ≡ first_refusal (field_checks x tokenParameters (drop q s.now)) }
+    ensures { (x : Bool) → result ≡ first_refusal (field_checks x token_parameters (drop q s.now)) }
 {
     if two(s, q + 5) != 0 {
         return SUBSECTION_RESERVED;
@@ -130,7 +130,7 @@ fn token_fields(s: &[u8], page: &[u8; 256], q: usize, m: usize, z: usize) -> u32
 // The subsection 0005 at q, where n bytes are left of its section; seen: one stands before.
 pub fn token_at(s: &[u8], page: &[u8; 256], q: usize, n: usize, seen: bool) -> u32
     requires { (4 ≤ n) × (q + n ≤ length s.now) × (length s.now ≤ longest) × Page page.now }
-    ensures { (x : Bool) → result ≡ first_refusal (subsection_checks x tokenParameters seen n (drop q s.now)) }
+    ensures { (x : Bool) → result ≡ first_refusal (subsection_checks x token_parameters seen n (drop q s.now)) }
 {
     let h = subsection_head(s, q, n, 10, seen);
     if h != 0 {

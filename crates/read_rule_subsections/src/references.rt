@@ -1,6 +1,6 @@
 // Internal: the subsections of a rule that name other rules, 0002 and 0004, and the transport variant, 0001.
 ghost use Rattle.std.specs.Prelude.{◌≡◌, Bool, ◌+◌, ◌≤◌, length, drop};
-ghost use Rattle.format.specs.Parts.{transportVariant, transportRule};
+ghost use Rattle.format.specs.Parts.{transport_variant, transport_rule};
 ghost use Rattle.format.specs.Rules.{longest};
 ghost use Rattle.format.specs.Reading.{subsection_checks};
 ghost use Rattle.read_characters.specs.Page.{Page};
@@ -15,7 +15,7 @@ use read_sections::{
 // The subsection 0001 at q, where n bytes are left of its section; seen: one stands before.
 pub fn variant_at(s: &[u8], q: usize, n: usize, seen: bool) -> u32
     requires { (4 ≤ n) × (q + n ≤ length s.now) × (length s.now ≤ longest) }
-    ensures { (x : Bool) → result ≡ first_refusal (subsection_checks x transportVariant seen n (drop q s.now)) }
+    ensures { (x : Bool) → result ≡ first_refusal (subsection_checks x transport_variant seen n (drop q s.now)) }
 {
     let h = subsection_head(s, q, n, 8, seen);
     if h != 0 {
@@ -33,7 +33,7 @@ pub fn variant_at(s: &[u8], q: usize, n: usize, seen: bool) -> u32
 // The subsection 0002 or 0004 at q, where n bytes are left of its section. Both have the same tests.
 pub fn reference_at(s: &[u8], page: &[u8; 256], q: usize, n: usize, seen: bool) -> u32
     requires { (4 ≤ n) × (q + n ≤ length s.now) × (length s.now ≤ longest) × Page page.now }
-    ensures { (x : Bool) → result ≡ first_refusal (subsection_checks x transportRule seen n (drop q s.now)) }
+    ensures { (x : Bool) → result ≡ first_refusal (subsection_checks x transport_rule seen n (drop q s.now)) }
 {
     let h = fixed_subsection_head(s, q, n, 14, seen);
     if h != 0 {

@@ -7,7 +7,7 @@ use native.Mathlib.Omega.{arith}
 use lib.Dec.{eqb, leb}
 use lib.ListN.{length, get_or, drop}
 use Rattle.format.specs.Bytes.{every, number, bytes_at}
-use Rattle.format.specs.Parts.{rule, exportParameters, tokenParameters, Part}
+use Rattle.format.specs.Parts.{rule, export_parameters, token_parameters, Part}
 use Rattle.format.specs.Rules.{has, of_kind, mask_covers, has_required}
 use Rattle.format.specs.Reading.{found, fault, need, as_answer, stated, place_of, mask_offset, after_subsections, section_rest}
 use Rattle.format.specs.declared.Answer.TheVariants.{Accepted, Refused}
@@ -27,33 +27,33 @@ every_part f h [] = refl
 every_part f h (u ∷ us) = ap₂ (λ (a b : Bool). a && b) (h u) (every_part f h us)
 
 -- Where no 0003 is, every mask will do.
-pub mask_free : (us : List Part) → of_kind exportParameters us ≡ [] → mask_covers us ≡ true
-mask_free us e = rw e (every_part _ (λ p. or-true (eqb (length (get_or p.fields 0 [])) 0)) (of_kind tokenParameters us))
+pub mask_free : (us : List Part) → of_kind export_parameters us ≡ [] → mask_covers us ≡ true
+mask_free us e = rw e (every_part _ (λ p. or-true (eqb (length (get_or p.fields 0 [])) 0)) (of_kind token_parameters us))
 
 -- With one of each, the mask is none or as long as the minimum.
-pub mask_both : (us : List Part) (u v : Part) {k m : ℕ} → of_kind exportParameters us ≡ u ∷ [] → of_kind tokenParameters us ≡ v ∷ []
+pub mask_both : (us : List Part) (u v : Part) {k m : ℕ} → of_kind export_parameters us ≡ u ∷ [] → of_kind token_parameters us ≡ v ∷ []
     → number (get_or u.fields 0 []) ≡ k → length (get_or v.fields 0 []) ≡ m → mask_covers us ≡ (eqb m 0 || leb k m)
 mask_both us u v {k} {m} e f a b = rw (e, f, a, b, and-true (leb k m), and-true (eqb m 0 || leb k m))
 
 -- A 0005 that is refused stands.
-mask_stands : (s : List ℕ) (us : List Part) (i : ℕ) → of_kind tokenParameters us ≡ standing s tokenParameters i → mask_covers us ≡ false → 0 < i
+mask_stands : (s : List ℕ) (us : List Part) (i : ℕ) → of_kind token_parameters us ≡ standing s token_parameters i → mask_covers us ≡ false → 0 < i
 mask_stands s us zero e f =
-    let t : mask_covers us ≡ true = mask_none us (e ∙ standing_none s tokenParameters refl) in
+    let t : mask_covers us ≡ true = mask_none us (e ∙ standing_none s token_parameters refl) in
     absurd (let z : ◌≡◌ {A = ℕ} 0 1 = cc in omega arith)
 mask_stands s us (suc i) e f = omega arith
 
 -- ---- what is required
 
 -- An export rule has a 0003.
-rule_required : (r : List ℕ) (us : List Part) → has_required (rule_of r us) ≡ (not (eqb (number (bytes_at r 12 4)) 1) || has exportParameters us)
-rule_required r us = and-true (not (eqb (number (bytes_at r 12 4)) 1) || has exportParameters us)
+rule_required : (r : List ℕ) (us : List Part) → has_required (rule_of r us) ≡ (not (eqb (number (bytes_at r 12 4)) 1) || has export_parameters us)
+rule_required r us = and-true (not (eqb (number (bytes_at r 12 4)) 1) || has export_parameters us)
 
 -- A rule with a 0003 has all that is required.
-pub required_there : (r : List ℕ) (us : List Part) (full : Bool) → has exportParameters us ≡ true → true ≡ (not full || has_required (rule_of r us))
+pub required_there : (r : List ℕ) (us : List Part) (full : Bool) → has export_parameters us ≡ true → true ≡ (not full || has_required (rule_of r us))
 required_there r us full e = rw (rule_required r us, e, or-true (not (eqb (number (bytes_at r 12 4)) 1)), or-true (not full))
 
 -- Without one, it must be no export rule.
-pub required_told : (r : List ℕ) (us : List Part) (full : Bool) {v : ℕ} → full ≡ true → has exportParameters us ≡ false → v ≡ number (bytes_at r 12 4)
+pub required_told : (r : List ℕ) (us : List Part) (full : Bool) {v : ℕ} → full ≡ true → has export_parameters us ≡ false → v ≡ number (bytes_at r 12 4)
     → not (eqb v 1) ≡ (not full || has_required (rule_of r us))
 required_told r us full {v = v} f e l = rw (f, rule_required r us, sym l, e, or-false (not (eqb v 1)))
 
@@ -63,7 +63,7 @@ module _ {s : List ℕ} {p e q n : ℕ} {places : List ℕ} (full x : Bool) (w :
     (l : e ≡ p + stated (drop p s)) where
   -- What the loop has read when it ends is all of the section.
   rule_end : section_rest full x rule p (drop p s)
-      ≡ need (mask_covers w.done) (fault 18 (place_of tokenParameters (p + 20) w.done) (place_of tokenParameters (p + 20) w.done + mask_offset))
+      ≡ need (mask_covers w.done) (fault 18 (place_of token_parameters (p + 20) w.done) (place_of token_parameters (p + 20) w.done + mask_offset))
       (need (not full || has_required (rule_of (drop p s) w.done)) (fault 20 p p) (found (rule_of (drop p s) w.done)))
   unfolding after_subsections
   rule_end =
@@ -73,18 +73,18 @@ module _ {s : List ℕ} {p e q n : ℕ} {places : List ℕ} (full x : Bool) (w :
       (sym (w.same x) ∙ ap (λ (a : ℕ). subsections_from x rule w.done q a (drop q s)) zero ∙ subs_none x rule w.done q (drop q s))
 
   -- The rule is refused with 18 at the m of its 0005 where the mask is too short.
-  pub ends-masked : mask_covers w.done ≡ false → Refused 18 (get_or places 0x0005 0 + 8) ≡ as_answer section_rows (section_rest full x rule p (drop p s))
+  pub ends_masked : mask_covers w.done ≡ false → Refused 18 (get_or places 0x0005 0 + 8) ≡ as_answer section_rows (section_rest full x rule p (drop p s))
   unfolding as_answer need
-  ends-masked b =
-      let o = w.once tokenParameters refl in
-      let stands : place_of tokenParameters (p + 20) w.done ≡ get_or places 0x0005 0 = o.stands ∙ here_one (get_or places 0x0005 0) q (mask_stands s w.done (get_or places 0x0005 0) o.parts b) in
+  ends_masked b =
+      let o = w.once token_parameters refl in
+      let stands : place_of token_parameters (p + 20) w.done ≡ get_or places 0x0005 0 = o.stands ∙ here_one (get_or places 0x0005 0) q (mask_stands s w.done (get_or places 0x0005 0) o.parts b) in
       ap (λ (i : ℕ). Refused 18 (i + 8)) (sym stands) ∙ sym (ap (as_answer section_rows) rule_end ∙ rw b)
 
   -- It is refused with 20 where the 0003 is missing that it requires.
-  pub ends-missing : mask_covers w.done ≡ true → (not full || has_required (rule_of (drop p s) w.done)) ≡ false
+  pub ends_missing : mask_covers w.done ≡ true → (not full || has_required (rule_of (drop p s) w.done)) ≡ false
       → Refused 20 p ≡ as_answer section_rows (section_rest full x rule p (drop p s))
   unfolding as_answer need
-  ends-missing a b = sym (ap (as_answer section_rows) rule_end ∙ rw (a, b))
+  ends_missing a b = sym (ap (as_answer section_rows) rule_end ∙ rw (a, b))
 
   -- It is accepted with its rows.
   pub ends_there : mask_covers w.done ≡ true → (not full || has_required (rule_of (drop p s) w.done)) ≡ true

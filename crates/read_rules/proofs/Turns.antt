@@ -15,13 +15,13 @@ use Rattle.format.specs.Parts.{Kind, rule, tag, same_kind, Part, size}
 use Rattle.format.specs.Reading.{subsection_kind, Outcome, refused, found, fault, tested, stated, made_length, part_in, subsection_checks, subsection}
 use Rattle.format.specs.Rules.{has}
 use Rattle.format.proofs.Elements.{some_inj}
-use Rattle.format.proofs.Finding.{every_kind, same_kind_eq, subsectionKind-sound}
+use Rattle.format.proofs.Finding.{every_kind, same_kind_eq, subsection_kind_sound}
 use Rattle.format.proofs.Tests.{needed, tests_passed}
 use Rattle.format.proofs.Turns.{subsections_from}
 use Rattle.read_rule_ids.proofs.Laws.{same_or}
 use Rattle.read_sections.specs.Refusals.{sub_refusal}
 use Rattle.read_sections.proofs.Laws.{at_drop}
-use Rattle.read_sections.proofs.Subs.{FoundAs, sub-finds, at_here, loop-room, loop-on, length_last}
+use Rattle.read_sections.proofs.Subs.{FoundAs, sub_finds, at_here, loop_room, loop_on, length_last}
 use Rattle.read_rules.specs.Loops.{OfRule, Once, RuleRead}
 use Rattle.format.proofs.Reaching.{part_size}
 use Rattle.read_rules.proofs.Places.{once_none, once_other, once_here}
@@ -45,7 +45,7 @@ tag_past t h = go (subsection_kind rule t) refl
   where
     go : (m : Option Kind) → subsection_kind rule t ≡ m → m ≡ none
     go none e = refl
-    go (some k) e = absurd (omega (arith, (subsectionKind-sound rule t k e).2, tag_below k))
+    go (some k) e = absurd (omega (arith, (subsection_kind_sound rule t k e).2, tag_below k))
 
 -- Kinds with different tags are different.
 other_tag : (j k : Kind) → (tag j ≡ tag k → ⊥) → same_kind j k ≡ false
@@ -85,23 +85,23 @@ module _ {s : List ℕ} {p e q n : ℕ} {places : List ℕ} (w : RuleRead s p e 
     (l₂ : g ≡ number (bytes_at s q 2)) where
   -- The kind that the tag tells, in a reading of an internal token as in one of an external token.
   read : FoundAs false rule w.done q (e - q) (drop q s)
-  read = sub-finds false rule w.done q (e - q) (drop q s) (f false) z
+  read = sub_finds false rule w.done q (e - q) (drop q s) (f false) z
 
   -- The tag tells it.
   told : subsection_kind rule g ≡ some read.kind
   told = ap (subsection_kind rule) (l₂ ∙ sym (at_here s q 2)) ∙ read.told
 
   -- Its tag is the tag that was read.
-  tag-told : tag read.kind ≡ g
-  tag-told = (subsectionKind-sound rule g read.kind told).2
+  tag_told : tag read.kind ≡ g
+  tag_told = (subsection_kind_sound rule g read.kind told).2
 
   -- A tag that was read has its place among the six.
   pub tag_six : g < 0x0006
-  tag_six = let b = tag_below read.kind in omega (arith, tag-told)
+  tag_six = let b = tag_below read.kind in omega (arith, tag_told)
 
   -- The part ends within the section, and is as long as it states.
   room : (4 ≤ t) × (t ≤ e - q)
-  room = let r = loop-room s false rule w.done q e h (f false) z in (omega (arith, r.0), omega (arith, r.1))
+  room = let r = loop_room s false rule w.done q e h (f false) z in (omega (arith, r.0), omega (arith, r.1))
 
   -- It is the first of its kind, and its counts make the bytes that it states.
   new : (has read.kind w.done ≡ false) × (made_length read.kind (drop q s) ≡ t)
@@ -128,15 +128,15 @@ module _ {s : List ℕ} {p e q n : ℕ} {places : List ℕ} (w : RuleRead s p e 
       (λ d.
       let same : j ≡ k = some_inj (sym o ∙ ap (subsection_kind rule) d ∙ told) in
       let here : get_or (set places g q) (tag j) 0 ≡ q = ap (λ (i : ℕ). get_or (set places g q) i 0) d ∙ get_or-set_same places g q 0 (omega (arith, w.six, tag_six)) in
-      rw (here, same) (once_here t (w.once k (ap (subsection_kind rule) tag-told ∙ told)) new.0 (omega arith) (omega (arith, new.1))))
-      (λ d. rw (get_or-set_other places g (tag j) q 0 d) (once_other u (w.once j o) (other_tag j k (λ y. d (y ∙ tag-told))) long))
+      rw (here, same) (once_here t (w.once k (ap (subsection_kind rule) tag_told ∙ told)) new.0 (omega arith) (omega (arith, new.1))))
+      (λ d. rw (get_or-set_other places g (tag j) q 0 d) (once_other u (w.once j o) (other_tag j k (λ y. d (y ∙ tag_told))) long))
       (same_or (tag j) g)
 
   -- What is read after the part is what is read from the first one on.
   same_more : (x : Bool) → subsections_from x rule (w.done ++ part_in read.kind (drop q s) ∷ []) (q + t) (e - (q + t)) (drop (q + t) s)
       ≡ subsections_from x rule [] (p + 20) (e - (p + 20)) (drop (p + 20) s)
   same_more x =
-      let o = loop-on s x rule w.done q e h (f x) z l in
+      let o = loop_on s x rule w.done q e h (f x) z l in
       let k : o.kind ≡ read.kind = some_inj (sym o.told ∙ ap (subsection_kind rule) (sym l₂) ∙ told) in
       ap (λ (y : Kind). subsections_from x rule (w.done ++ part_in y (drop q s) ∷ []) (q + t) (e - (q + t)) (drop (q + t) s)) (sym k)
       ∙ o.same

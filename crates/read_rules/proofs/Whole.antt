@@ -15,13 +15,13 @@ use Rattle.format.proofs.Tests.{found_inj, needed, followed}
 use Rattle.read_fields.proofs.Sizes.{bytes_small}
 use Rattle.read_rule_ids.specs.Keys.{among, Put}
 use Rattle.read_sections.specs.Refusals.{first_refusal, section_rows}
-use Rattle.read_sections.proofs.Heads.{section-stops, section-goes}
+use Rattle.read_sections.proofs.Heads.{section_stops, section_goes}
 use Rattle.read_sections.proofs.Laws.{all_hold, at_drop, number_at}
 use Rattle.read_rules.specs.Loops.{rule_of}
 use Rattle.read_rules.specs.Ids.{EightBytes, Held, RuleAnswered}
 use Rattle.read_rule_subsections.proofs.Laws.{length_behind}
 use Rattle.read_rules.proofs.Turns.{rule_start}
-use Rattle.read_rules.proofs.Ends.{ends-missing, ends_there}
+use Rattle.read_rules.proofs.Ends.{ends_missing, ends_there}
 use Rattle.read_rules.proofs.Ids.{id_some, rule_key, held_put}
 
 -- ---- the Rule ID
@@ -73,21 +73,21 @@ not_found f o a e g =
 
 module _ (full x : Bool) (before : List Section) (s : List ℕ) (p : ℕ) (four : p + 4 ≤ length s) (id : number (bytes_at s p 1) ≡ 0x12) where
   -- A rule with a number is refused as it says.
-  pub rule-stops : {m : ℕ} {repeated : Bool} (ids : List ℕ) → rule_before (part_in rule (drop p s)) before ≡ repeated
+  pub rule_stops : {m : ℕ} {repeated : Bool} (ids : List ℕ) → rule_before (part_in rule (drop p s)) before ≡ repeated
       → m ≡ first_refusal (section_checks x rule (kind_before rule before) repeated (drop p s)) → (m ≡ 0 → ⊥)
       → RuleAnswered full x before s p ids (Refused (m % 256) (p + m / 256))
-  rule-stops ids e f z =
-      let same = section-stops full x rule before s p four (ap section_kind id) refl e f z in
+  rule_stops ids e f z =
+      let same = section_stops full x rule before s p four (ap section_kind id) refl e f z in
       record { same = same; held = λ t g. absurd (not_found section_rows (section full x before p (drop p s)) t same g) }
 
   -- One without is what its subsections and its end make of it, and its Rule ID is in the set.
-  pub rule-goes : {old new : List ℕ} {v : ℕ} {seen : Bool} {r : Answer} → Held before p old → Put old v seen new
+  pub rule_goes : {old new : List ℕ} {v : ℕ} {seen : Bool} {r : Answer} → Held before p old → Put old v seen new
       → EightBytes (bytes_at (drop p s) 4 8) → v ≡ number (bytes_at s (p + 4) 8) → 20 ≤ stated (drop p s)
       → rule_before (part_in rule (drop p s)) before ≡ false
       → 0 ≡ first_refusal (section_checks x rule (kind_before rule before) false (drop p s))
       → r ≡ as_answer section_rows (section_rest full x rule p (drop p s)) → RuleAnswered full x before s p new r
-  rule-goes {old} {new} {v} {seen} w put eight l long e f a =
-      let goes = section-goes full x rule before s p four (ap section_kind id) refl e f in
+  rule_goes {old} {new} {v} {seen} w put eight l long e f a =
+      let goes = section_goes full x rule before s p four (ap section_kind id) refl e f in
       let same : v ≡ number (bytes_at (drop p s) 4 8) = number_at s p 4 8 l in
       record {
         same = a ∙ sym (ap (as_answer section_rows) goes);
@@ -100,13 +100,13 @@ module _ (full x : Bool) (before : List Section) (s : List ℕ) (p : ℕ) (four 
 
 module _ (full x : Bool) (s : List ℕ) (p : ℕ) (l : p + 20 ≡ p + stated (drop p s)) where
   -- It is accepted, with its own row.
-  pub bare-there : (not full || has_required (rule_of (drop p s) [])) ≡ true
+  pub bare_there : (not full || has_required (rule_of (drop p s) [])) ≡ true
       → Accepted 1 ≡ as_answer section_rows (section_rest full x rule p (drop p s))
   unfolding rule_start
-  bare-there b = ends_there full x (rule_start s p (p + 20) (omega arith)) (omega arith) (omega arith) l refl b
+  bare_there b = ends_there full x (rule_start s p (p + 20) (omega arith)) (omega arith) (omega arith) l refl b
 
   -- It is refused with 20 where it requires a 0003.
-  pub bare-missing : (not full || has_required (rule_of (drop p s) [])) ≡ false
+  pub bare_missing : (not full || has_required (rule_of (drop p s) [])) ≡ false
       → Refused 20 p ≡ as_answer section_rows (section_rest full x rule p (drop p s))
   unfolding rule_start
-  bare-missing b = ends-missing full x (rule_start s p (p + 20) (omega arith)) (omega arith) (omega arith) l refl b
+  bare_missing b = ends_missing full x (rule_start s p (p + 20) (omega arith)) (omega arith) (omega arith) l refl b

@@ -1,5 +1,7 @@
 // Internal: section 12, the rule, and the loop over its subsections. Each test is made once and in order. The functions ask
 // that the bytes are there that earlier tests have shown to be there, and that what is lent as the page of characters is it.
+#![tactic(auto)]
+
 mod subsections; // subsections.rt: the loop over the subsections of a rule, and what they owe each other
 
 ghost use Rattle.std.specs.Prelude.{◌≡◌, Bool, List, ◌+◌, ◌≤◌, length, drop};

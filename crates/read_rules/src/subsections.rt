@@ -1,6 +1,6 @@
 // Internal: the loop over the subsections of a rule, and what they owe each other.
 ghost use Rattle.std.specs.Prelude.{◌≡◌, Bool, not, ◌||◌, List, ◌+◌, ◌≤◌, length, drop};
-ghost use Rattle.format.specs.Parts.{rule, exportParameters, tokenParameters, Part};
+ghost use Rattle.format.specs.Parts.{rule, export_parameters, token_parameters, Part};
 ghost use Rattle.format.specs.Rules.{longest, has, of_kind, mask_covers, has_required};
 ghost use Rattle.format.specs.Reading.{stated, as_answer, section_rest};
 ghost use Rattle.read_characters.specs.Page.{Page};
@@ -39,8 +39,8 @@ fn rule_sub(s: &[u8], page: &[u8; 256], q: usize, n: usize, places: &[usize; 0x0
 
 // The 0005 at b, if there is one, has no mask or one that is as long as the minimum of the 0003 at a, if there is one.
 fn mask_covers(s: &[u8], a: usize, b: usize) -> bool
-    requires { (length s.now ≤ longest) × Within s.now exportParameters a × Within s.now tokenParameters b }
-    ensures { (us : List Part) → of_kind exportParameters us ≡ standing s.now exportParameters a → of_kind tokenParameters us ≡ standing s.now tokenParameters b → result ≡ mask_covers us }
+    requires { (length s.now ≤ longest) × Within s.now export_parameters a × Within s.now token_parameters b }
+    ensures { (us : List Part) → of_kind export_parameters us ≡ standing s.now export_parameters a → of_kind token_parameters us ≡ standing s.now token_parameters b → result ≡ mask_covers us }
 {
     if a == 0 {
         return true;
@@ -58,7 +58,7 @@ fn mask_covers(s: &[u8], a: usize, b: usize) -> bool
 // The rule at p has what is required of it: in a full reading an export rule has a 0003.
 pub fn has_required(s: &[u8], p: usize, full: bool, exported: bool) -> bool
     requires { p + 20 ≤ length s.now }
-    ensures { (us : List Part) → has exportParameters us ≡ exported → result ≡ (not full || has_required (rule_of (drop p s.now) us)) }
+    ensures { (us : List Part) → has export_parameters us ≡ exported → result ≡ (not full || has_required (rule_of (drop p s.now) us)) }
 {
     if !full {
         return true;

@@ -41,20 +41,20 @@ module _ (full x : Bool) (k : Kind) (before : List Section) (s : List ℕ) (p : 
       (ap section_kind (at_here s p 1) ∙ e)
 
   -- A section with a number is refused with it, at its place.
-  pub section-stops : {m : ℕ} {seen repeated : Bool} → p + 4 ≤ length s → section_kind (number (bytes_at s p 1)) ≡ some k
+  pub section_stops : {m : ℕ} {seen repeated : Bool} → p + 4 ≤ length s → section_kind (number (bytes_at s p 1)) ≡ some k
       → kind_before k before ≡ seen → rule_before (part_in k (drop p s)) before ≡ repeated
       → m ≡ Tests seen repeated → (m ≡ 0 → ⊥) → Refused (m % 256) (p + m / 256) ≡ as_answer section_rows (section full x before p (drop p s))
-  section-stops {m} h e a b f z =
+  section_stops {m} h e a b f z =
       let g : m ≡ Tests (kind_before k before) (rule_before (part_in k (drop p s)) before) = f ∙ ap₂ Tests (sym a) (sym b) in
       refused_told section_rows
       (refused_same (known h e)
       (stops p _ _ (section_numbered x k (kind_before k before) (rule_before (part_in k (drop p s)) before) (drop p s)) g z))
 
   -- One without a number is what its subsections and its end make of it.
-  pub section-goes : {seen repeated : Bool} → p + 4 ≤ length s → section_kind (number (bytes_at s p 1)) ≡ some k
+  pub section_goes : {seen repeated : Bool} → p + 4 ≤ length s → section_kind (number (bytes_at s p 1)) ≡ some k
       → kind_before k before ≡ seen → rule_before (part_in k (drop p s)) before ≡ repeated
       → 0 ≡ Tests seen repeated → section full x before p (drop p s) ≡ section_rest full x k p (drop p s)
-  section-goes h e a b f =
+  section_goes h e a b f =
       let g = f ∙ ap₂ Tests (sym a) (sym b) in
       known h e
       ∙ leads p _ _ (section_numbered x k (kind_before k before) (rule_before (part_in k (drop p s)) before) (drop p s)) (sym g)
@@ -99,4 +99,4 @@ plain_found full x k before s p {seen} {repeated} h e a b f r i =
     let c = all_hold (section_checks x k seen repeated (drop p s)) (section_numbered x k seen repeated (drop p s)) f in
     let w : eqb (made_length k (drop p s)) (stated (drop p s)) ≡ true =
     sym (ap₂ (λ (u v : Bool). (u || v) || eqb (made_length k (drop p s)) (stated (drop p s))) r i) ∙ c.1.1.1.0 in
-    section-goes full x k before s p h e a b f ∙ plain_rest full x k p (drop p s) (eqb-true _ _ w) r i
+    section_goes full x k before s p h e a b f ∙ plain_rest full x k p (drop p s) (eqb-true _ _ w) r i

@@ -48,42 +48,42 @@ module _ (s : List ℕ) (p x y : ℕ) (ex : x ≡ number (bytes_at s (p + 6) 2))
   abbrev Y : ℕ
   Y = number (bytes_at (drop p s) 10 2)
 
-  x-is : x ≡ X
-  x-is = number_at s p 6 2 ex
+  x_is : x ≡ X
+  x_is = number_at s p 6 2 ex
 
-  y-is : y ≡ Y
-  y-is = number_at s p 10 2 ey
+  y_is : y ≡ Y
+  y_is = number_at s p 10 2 ey
 
-  pub exponent-at : bytes_at s (p + 12) (p + 12 + x - (p + 12)) ≡ bytes_at (drop p s) 12 X
-  exponent-at =
-      let n : p + 12 + x - (p + 12) ≡ X = omega (arith, x-is) in
+  pub exponent_at_is : bytes_at s (p + 12) (p + 12 + x - (p + 12)) ≡ bytes_at (drop p s) 12 X
+  exponent_at_is =
+      let n : p + 12 + x - (p + 12) ≡ X = omega (arith, x_is) in
       ap (bytes_at s (p + 12)) n ∙ sym (at_drop s p 12 X)
 
-  pub modulus-at : bytes_at s (p + 12 + x) (p + 12 + x + y - (p + 12 + x)) ≡ bytes_at (drop p s) (12 + X) Y
-  modulus-at =
-      let i : p + 12 + x ≡ p + (12 + X) = omega (arith, x-is) in
-      let n : p + 12 + x + y - (p + 12 + x) ≡ Y = omega (arith, y-is) in
+  pub modulus_at_is : bytes_at s (p + 12 + x) (p + 12 + x + y - (p + 12 + x)) ≡ bytes_at (drop p s) (12 + X) Y
+  modulus_at_is =
+      let i : p + 12 + x ≡ p + (12 + X) = omega (arith, x_is) in
+      let n : p + 12 + x + y - (p + 12 + x) ≡ Y = omega (arith, y_is) in
       ap₂ (bytes_at s) i n ∙ sym (at_drop s p (12 + X) Y)
 
   -- their lengths are those that are stated
-  pub exponent-length : p + 12 + x ≤ length s → X ≡ length (bytes_at s (p + 12) (p + 12 + x - (p + 12)))
-  exponent-length h = omega (arith, x-is, bytes_length s (p + 12) (p + 12 + x - (p + 12)) (omega arith))
+  pub exponent_length_is : p + 12 + x ≤ length s → X ≡ length (bytes_at s (p + 12) (p + 12 + x - (p + 12)))
+  exponent_length_is h = omega (arith, x_is, bytes_length s (p + 12) (p + 12 + x - (p + 12)) (omega arith))
 
-  pub modulus-length : p + 12 + x + y ≤ length s → Y ≡ length (bytes_at s (p + 12 + x) (p + 12 + x + y - (p + 12 + x)))
-  modulus-length h = omega (arith, y-is, bytes_length s (p + 12 + x) (p + 12 + x + y - (p + 12 + x)) (omega arith))
+  pub modulus_length : p + 12 + x + y ≤ length s → Y ≡ length (bytes_at s (p + 12 + x) (p + 12 + x + y - (p + 12 + x)))
+  modulus_length h = omega (arith, y_is, bytes_length s (p + 12 + x) (p + 12 + x + y - (p + 12 + x)) (omega arith))
 
-  pub flags-at : {f : ℕ} → f ≡ number (bytes_at s (p + 12 + x + y) 4) → f ≡ number (bytes_at (drop p s) (12 + X + Y) 4)
-  flags-at q =
-      let i : p + 12 + x + y ≡ p + (12 + X + Y) = omega (arith, x-is, y-is) in
+  pub flags_at_is : {f : ℕ} → f ≡ number (bytes_at s (p + 12 + x + y) 4) → f ≡ number (bytes_at (drop p s) (12 + X + Y) 4)
+  flags_at_is q =
+      let i : p + 12 + x + y ≡ p + (12 + X + Y) = omega (arith, x_is, y_is) in
       q ∙ ap (λ (k : ℕ). number (bytes_at s k 4)) i ∙ ap number (sym (at_drop s p (12 + X + Y) 4))
 
   -- x and y make the length, or do not.
   module _ (l : ℕ) (el : l ≡ number (bytes_at s (p + 2) 2)) where
     made : 12 + X + Y + 4 ≡ 16 + x + y
-    made = omega (arith, x-is, y-is)
+    made = omega (arith, x_is, y_is)
 
-    pub made-yes : 16 + x + y ≡ l → eqb (12 + X + Y + 4) (number (bytes_at (drop p s) 2 2)) ≡ true
-    made-yes e = eq-eqb _ _ (made ∙ e ∙ number_at s p 2 2 el)
+    pub made_yes : 16 + x + y ≡ l → eqb (12 + X + Y + 4) (number (bytes_at (drop p s) 2 2)) ≡ true
+    made_yes e = eq-eqb _ _ (made ∙ e ∙ number_at s p 2 2 el)
 
-    pub made-not : (16 + x + y ≡ l → ⊥) → eqb (12 + X + Y + 4) (number (bytes_at (drop p s) 2 2)) ≡ false
-    made-not h = ne_eqb _ _ (λ e. h (sym made ∙ e ∙ sym (number_at s p 2 2 el)))
+    pub made_not : (16 + x + y ≡ l → ⊥) → eqb (12 + X + Y + 4) (number (bytes_at (drop p s) 2 2)) ≡ false
+    made_not h = ne_eqb _ _ (λ e. h (sym made ∙ e ∙ sym (number_at s p 2 2 el)))

@@ -113,14 +113,14 @@ module _ (m n : ℕ) (seen : Bool) (r : List ℕ) (ds : List Test) where
   abbrev Subsection : List Test → List Test
   Subsection cs = test 2 12 (leb m (stated r) && leb (stated r) n) ∷ test 0 14 (not seen) ∷ test 4 8 (all_zero (bytes_at r 4 1)) ∷ cs
 
-  pub sub-head : {h : ℕ} → h ≡ first_refusal (sub_head_checks m seen n r) → Made h (Subsection ds) ds
+  pub sub_head : {h : ℕ} → h ≡ first_refusal (sub_head_checks m seen n r) → Made h (Subsection ds) ds
   unfolding sub_head_checks
-  sub-head e = made (sub_head_checks m seen n r) ds (all_left _) refl e
+  sub_head e = made (sub_head_checks m seen n r) ds (all_left _) refl e
 
   -- that of one that is always of the same length
-  pub fixed-head : {h : ℕ} → h ≡ first_refusal (fixed_head_checks m seen n r) → Made h (Subsection (test 2 12 (eqb m (stated r)) ∷ test 5 10 (all_zero (bytes_at r 5 1)) ∷ ds)) ds
+  pub fixed_head : {h : ℕ} → h ≡ first_refusal (fixed_head_checks m seen n r) → Made h (Subsection (test 2 12 (eqb m (stated r)) ∷ test 5 10 (all_zero (bytes_at r 5 1)) ∷ ds)) ds
   unfolding fixed_head_checks sub_head_checks
-  fixed-head e = made (fixed_head_checks m seen n r) ds (all_left _) refl e
+  fixed_head e = made (fixed_head_checks m seen n r) ds (all_left _) refl e
 
 -- what a passed head says of the lengths: the least one, and so the fixed fields, lie within the bytes
 within : (m l n : ℕ) → (leb m l && leb l n) ≡ true → (m ≤ l) × (l ≤ n)
@@ -138,9 +138,9 @@ module _ {h : ℕ} (m n : ℕ) (seen : Bool) (r : List ℕ) where
   unfolding sub_head_checks
   room_for e z = within m (stated r) n (all_hold (sub_head_checks m seen n r) refl (sym z ∙ e)).0
 
-  pub fixed-room : h ≡ first_refusal (fixed_head_checks m seen n r) → h ≡ 0 → (m ≤ stated r) × (stated r ≤ n)
+  pub fixed_room : h ≡ first_refusal (fixed_head_checks m seen n r) → h ≡ 0 → (m ≤ stated r) × (stated r ≤ n)
   unfolding fixed_head_checks sub_head_checks
-  fixed-room e z = within m (stated r) n (all_hold (fixed_head_checks m seen n r) refl (sym z ∙ e)).0
+  fixed_room e z = within m (stated r) n (all_hold (fixed_head_checks m seen n r) refl (sym z ∙ e)).0
 
 -- a test that passes, at the end
 pub pass_last : {n : ℕ} (cs : List Test) (c : Test) → c.holds ≡ true → n ≡ first_refusal cs → n ≡ first_refusal (cs ++ c ∷ [])
@@ -167,12 +167,12 @@ module _ (s : List ℕ) (p o n : ℕ) {v : ℕ} (e : v ≡ number (bytes_at s (p
   number_at = e ∙ sym (ap number (at_drop s p o n))
 
   -- bytes whose number is 0 are all 0
-  pub zero-yes : v ≡ 0 → all_zero (bytes_at (drop p s) o n) ≡ true
-  zero-yes h = zero_number (bytes_at (drop p s) o n) ∙ eq-eqb _ 0 (sym number_at ∙ h)
+  pub zero_yes : v ≡ 0 → all_zero (bytes_at (drop p s) o n) ≡ true
+  zero_yes h = zero_number (bytes_at (drop p s) o n) ∙ eq-eqb _ 0 (sym number_at ∙ h)
 
   -- and others are not
-  pub zero-not : (v ≡ 0 → ⊥) → all_zero (bytes_at (drop p s) o n) ≡ false
-  zero-not h = zero_number (bytes_at (drop p s) o n) ∙ ne_eqb _ 0 (λ z. h (number_at ∙ z))
+  pub zero_not : (v ≡ 0 → ⊥) → all_zero (bytes_at (drop p s) o n) ≡ false
+  zero_not h = zero_number (bytes_at (drop p s) o n) ∙ ne_eqb _ 0 (λ z. h (number_at ∙ z))
 
   -- the number is at most m, or above it
   pub at_most : (m : ℕ) → v ≤ m → leb (number (bytes_at (drop p s) o n)) m ≡ true
@@ -199,8 +199,8 @@ module _ (s : List ℕ) (p o n : ℕ) {v : ℕ} (e : v ≡ number (bytes_at s (p
   pub is_number : (k : ℕ) → v ≡ k → eqb (number (bytes_at (drop p s) o n)) k ≡ true
   is_number k h = eq-eqb _ k (sym (number_at) ∙ h)
 
-  pub other-number : (k : ℕ) → (v ≡ k → ⊥) → eqb (number (bytes_at (drop p s) o n)) k ≡ false
-  other-number k h = ne_eqb _ k (λ q. h (number_at ∙ q))
+  pub other_number : (k : ℕ) → (v ≡ k → ⊥) → eqb (number (bytes_at (drop p s) o n)) k ≡ false
+  other_number k h = ne_eqb _ k (λ q. h (number_at ∙ q))
 
 -- a field's test, made on the bytes at its place
 pub field_at_is : {b : Bool} (f : List ℕ → Bool) (s : List ℕ) (p o n : ℕ) → b ≡ f (bytes_at s (p + o) n) → b ≡ f (bytes_at (drop p s) o n)

@@ -74,9 +74,9 @@ leads at cs rest f e = tests_lead at cs rest (all_hold cs f (sym e))
 
 module _ (x : Bool) (o : Kind) (before : List Part) (n : ℕ) (r : List ℕ) where
   -- Under four bytes.
-  pub sub-short : n < 4 → 12 ≡ sub_refusal x o before n r
+  pub sub_short : n < 4 → 12 ≡ sub_refusal x o before n r
   unfolding sub_refusal
-  sub-short h = rw (lt-leb 4 n h, sub_refusal)
+  sub_short h = rw (lt-leb 4 n h, sub_refusal)
 
   -- By the kind that its tag tells.
   abbrev by_number : Option Kind → ℕ
@@ -87,8 +87,8 @@ module _ (x : Bool) (o : Kind) (before : List Part) (n : ℕ) (r : List ℕ) whe
   sub_told h e = sym (ap₂ (λ (b : Bool) (y : Option Kind). elim b as (λ z. ℕ) [ false ↦ 12 | true ↦ by_number y ]) (le-leb 4 n h) e)
 
   -- A tag that is unknown here.
-  pub sub-unknown : 4 ≤ n → subsection_kind o (number (bytes_at r 0 2)) ≡ none → 13 ≡ sub_refusal x o before n r
-  sub-unknown h e = sub_told h e
+  pub sub_unknown : 4 ≤ n → subsection_kind o (number (bytes_at r 0 2)) ≡ none → 13 ≡ sub_refusal x o before n r
+  sub_unknown h e = sub_told h e
 
   -- A tag of a kind: the first refusal of its tests.
   pub sub_known : {m : ℕ} (k : Kind) (seen : Bool) → 4 ≤ n → subsection_kind o (number (bytes_at r 0 2)) ≡ some k → has k before ≡ seen
@@ -106,17 +106,17 @@ module _ (x : Bool) (o : Kind) (before : List Part) (at n : ℕ) (r : List ℕ) 
   abbrev by_kind : Option Kind → Outcome Part
   by_kind m = elim m [ none ↦ refused (fault 13 at at) | some k ↦ tested at (subsection_checks x k (has k before) n r) (found (part_in k r)) ]
 
-  kind-stops : {m : ℕ} (t : Option Kind) → m ≡ by_number x o before n r t → (m ≡ 0 → ⊥) → RefusedBy (by_kind t) m at
-  kind-stops none e h = refused_by 13 0 at at (omega arith) (omega arith) e
-  kind-stops (some k) e h = stops at (subsection_checks x k (has k before) n r) (found (part_in k r)) (sub_numbered x k (has k before) n r) e h
+  kind_stops : {m : ℕ} (t : Option Kind) → m ≡ by_number x o before n r t → (m ≡ 0 → ⊥) → RefusedBy (by_kind t) m at
+  kind_stops none e h = refused_by 13 0 at at (omega arith) (omega arith) e
+  kind_stops (some k) e h = stops at (subsection_checks x k (has k before) n r) (found (part_in k r)) (sub_numbered x k (has k before) n r) e h
 
   -- A subsection with a number is refused with it, at its place.
-  sub-stops : {m : ℕ} → m ≡ sub_refusal x o before n r → (m ≡ 0 → ⊥) → RefusedBy (subsection x o before at n r) m at
+  sub_stops : {m : ℕ} → m ≡ sub_refusal x o before n r → (m ≡ 0 → ⊥) → RefusedBy (subsection x o before at n r) m at
   unfolding subsection sub_refusal
-  sub-stops e h =
+  sub_stops e h =
       let told : Option Kind = subsection_kind o (number (bytes_at r 0 2)) in
       stop_test (leb 4 n) (fault 12 at at) (by_kind told) _ 12 (by_number x o before n r told) at
-      (λ q. refused_by 12 0 at at (omega arith) (omega arith) q) (λ q. kind-stops told q h) e
+      (λ q. refused_by 12 0 at at (omega arith) (omega arith) q) (λ q. kind_stops told q h) e
 
   -- One without a number is found, as the kind that its tag tells.
   pub record FoundAs : Type 0 where
@@ -124,12 +124,12 @@ module _ (x : Bool) (o : Kind) (before : List Part) (at n : ℕ) (r : List ℕ) 
     pub told : subsection_kind o (number (bytes_at r 0 2)) ≡ some kind
     pub same : subsection x o before at n r ≡ found (part_in kind r)
 
-  find-kind : (b : Bool) (m : Option Kind) → leb 4 n ≡ b → subsection_kind o (number (bytes_at r 0 2)) ≡ m
+  find_kind : (b : Bool) (m : Option Kind) → leb 4 n ≡ b → subsection_kind o (number (bytes_at r 0 2)) ≡ m
       → ◌≡◌ {A = ℕ} (elim b [ false ↦ 12 | true ↦ by_number x o before n r m ]) 0 → FoundAs
   unfolding subsection need
-  find-kind false m q w e = absurd (omega arith)
-  find-kind true none q w e = absurd (omega arith)
-  find-kind true (some k) q w e = record {
+  find_kind false m q w e = absurd (omega arith)
+  find_kind true none q w e = absurd (omega arith)
+  find_kind true (some k) q w e = record {
     kind = k;
     told = w;
     same =
@@ -137,9 +137,9 @@ module _ (x : Bool) (o : Kind) (before : List Part) (at n : ℕ) (r : List ℕ) 
         ∙ leads at (subsection_checks x k (has k before) n r) (found (part_in k r)) (sub_numbered x k (has k before) n r) e;
   }
 
-  pub sub-finds : {m : ℕ} → m ≡ sub_refusal x o before n r → m ≡ 0 → FoundAs
+  pub sub_finds : {m : ℕ} → m ≡ sub_refusal x o before n r → m ≡ 0 → FoundAs
   unfolding sub_refusal
-  sub-finds e z = find-kind (leb 4 n) (subsection_kind o (number (bytes_at r 0 2))) refl refl (sym e ∙ z)
+  sub_finds e z = find_kind (leb 4 n) (subsection_kind o (number (bytes_at r 0 2))) refl refl (sym e ∙ z)
 
 -- ---- a turn of the loop over the subsections of a section that ends at e
 
@@ -149,17 +149,17 @@ at_here s q n = ap number (at_drop s q 0 n ∙ ap (λ (i : ℕ). bytes_at s i n)
 
 module _ (s : List ℕ) (x : Bool) (o : Kind) (done : List Part) (q e : ℕ) (h : q < e) where
   -- The subsection at q is refused: so are the subsections from q on.
-  pub loop-stops : {m : ℕ} → m ≡ sub_refusal x o done (e - q) (drop q s) → (m ≡ 0 → ⊥)
+  pub loop_stops : {m : ℕ} → m ≡ sub_refusal x o done (e - q) (drop q s) → (m ≡ 0 → ⊥)
       → RefusedBy (subsections_from x o done q (e - q) (drop q s)) m q
-  loop-stops f z =
+  loop_stops f z =
       refused_same (subs_more x o done q (e - q) (drop q s) (omega arith))
-      (refused_then _ (sub-stops x o done q (e - q) (drop q s) f z))
+      (refused_then _ (sub_stops x o done q (e - q) (drop q s) f z))
 
   -- The subsection at q is found: it has four bytes and ends within the section.
-  pub loop-room : {m : ℕ} → m ≡ sub_refusal x o done (e - q) (drop q s) → m ≡ 0
+  pub loop_room : {m : ℕ} → m ≡ sub_refusal x o done (e - q) (drop q s) → m ≡ 0
       → (4 ≤ number (bytes_at s (q + 2) 2)) × (number (bytes_at s (q + 2) 2) ≤ e - q)
-  loop-room f z =
-      let g = sub-finds x o done q (e - q) (drop q s) f z in
+  loop_room f z =
+      let g = sub_finds x o done q (e - q) (drop q s) f z in
       let r = sub_step x o done q (e - q) (drop q s) (part_in g.kind (drop q s)) g.same in
       let l : stated (drop q s) ≡ number (bytes_at s (q + 2) 2) = ap number (at_drop s q 2 2) in
       (omega (arith, r.0), omega (arith, r.1))
@@ -171,10 +171,10 @@ module _ (s : List ℕ) (x : Bool) (o : Kind) (done : List Part) (q e : ℕ) (h 
     pub same : subsections_from x o (done ++ part_in kind (drop q s) ∷ []) (q + t) (e - (q + t)) (drop (q + t) s)
         ≡ subsections_from x o done q (e - q) (drop q s)
 
-  pub loop-on : {m t : ℕ} → m ≡ sub_refusal x o done (e - q) (drop q s) → m ≡ 0 → t ≡ number (bytes_at s (q + 2) 2) → GoesOn t
-  loop-on {t = t} f z l =
-      let g = sub-finds x o done q (e - q) (drop q s) f z in
-      let r = loop-room f z in
+  pub loop_on : {m t : ℕ} → m ≡ sub_refusal x o done (e - q) (drop q s) → m ≡ 0 → t ≡ number (bytes_at s (q + 2) 2) → GoesOn t
+  loop_on {t = t} f z l =
+      let g = sub_finds x o done q (e - q) (drop q s) f z in
+      let r = loop_room f z in
       let st : stated (drop q s) ≡ t = ap number (at_drop s q 2 2) ∙ sym l in
       let rest : drop (stated (drop q s)) (drop q s) ≡ drop (q + t) s = ap (λ (y : ℕ). drop y (drop q s)) st ∙ drop-drop t q s in
       let left : e - q - stated (drop q s) ≡ e - (q + t) = omega arith in

@@ -1,5 +1,7 @@
 // Internal: the checks of sections 11, 13 and 15, and how the checks of every section and subsection begin, each test once and in
 // order. The functions ask that the bytes are there that earlier tests have shown to be there.
+#![tactic(auto)]
+
 pub mod plain; // plain.rt: sections 13 and 15
 pub mod public_key; // public_key.rt: section 11
 

@@ -1,6 +1,6 @@
 // Internal: section 13, the name, and section 15, the application data: neither has a rule on its bytes.
 ghost use Rattle.std.specs.Prelude.{◌≡◌, Bool, ◌+◌, ◌≤◌, length, drop};
-ghost use Rattle.format.specs.Parts.{name, applicationData};
+ghost use Rattle.format.specs.Parts.{name, application_data};
 ghost use Rattle.format.specs.Rules.{longest};
 ghost use Rattle.format.specs.Reading.{section_checks};
 ghost use Rattle.read_sections.specs.Refusals.{first_refusal};
@@ -26,7 +26,7 @@ pub fn name_at(s: &[u8], p: usize, seen: bool) -> u32
 // The same of the section 15 at p.
 pub fn application_data_at(s: &[u8], p: usize, seen: bool) -> u32
     requires { (p + 4 ≤ length s.now) × (length s.now ≤ longest) }
-    ensures { (x repeated : Bool) → result ≡ first_refusal (section_checks x applicationData seen repeated (drop p s.now)) }
+    ensures { (x repeated : Bool) → result ≡ first_refusal (section_checks x application_data seen repeated (drop p s.now)) }
 {
     let h = section_head(s, p, 6, seen);
     if h != 0 {

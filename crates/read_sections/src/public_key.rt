@@ -1,7 +1,7 @@
 // Internal: section 11, the public key.
 ghost use Rattle.std.specs.Prelude.{◌≡◌, Bool, false, List, ◌∷◌, [], ℕ, ◌+◌, ◌≤◌, length, drop};
 ghost use Rattle.format.specs.Bytes.{number, bytes_at};
-ghost use Rattle.format.specs.Parts.{publicKey};
+ghost use Rattle.format.specs.Parts.{public_key};
 ghost use Rattle.format.specs.Rules.{longest, checks};
 ghost use Rattle.format.specs.Reading.{located, part_slots, section_checks};
 ghost use Rattle.read_sections.specs.Refusals.{first_refusal};
@@ -24,7 +24,7 @@ const EXPONENT: u32 = 16 + 256 * 12;
 // The first rule that the fields of a public key break, 0 where they keep all. Where the fields lie follows from their lengths,
 // so r is any bytes that state these.
 pub fn key_fields(bits: usize, exponent: &[u8], modulus: &[u8], flags: u32) -> u32
-    ensures { (r b f : List ℕ) → number (bytes_at r 6 2) ≡ length exponent.now → number (bytes_at r 10 2) ≡ length modulus.now → bits ≡ number b → flags ≡ number f → result ≡ first_refusal (located (part_slots publicKey r) (checks false publicKey (b ∷ exponent.now ∷ modulus.now ∷ f ∷ []))) }
+    ensures { (r b f : List ℕ) → number (bytes_at r 6 2) ≡ length exponent.now → number (bytes_at r 10 2) ≡ length modulus.now → bits ≡ number b → flags ≡ number f → result ≡ first_refusal (located (part_slots public_key r) (checks false public_key (b ∷ exponent.now ∷ modulus.now ∷ f ∷ []))) }
 {
     if exponent.len() < 1 {
         return EXPONENT_LENGTH;
@@ -56,7 +56,7 @@ pub fn key_fields(bits: usize, exponent: &[u8], modulus: &[u8], flags: u32) -> u
 // The first refusal of the section 11 at p, of which four bytes are there; seen: a section 11 stands before.
 pub fn public_key_at(s: &[u8], p: usize, seen: bool) -> u32
     requires { (p + 4 ≤ length s.now) × (length s.now ≤ longest) }
-    ensures { (x repeated : Bool) → result ≡ first_refusal (section_checks x publicKey seen repeated (drop p s.now)) }
+    ensures { (x repeated : Bool) → result ≡ first_refusal (section_checks x public_key seen repeated (drop p s.now)) }
 {
     let h = section_head(s, p, 16, seen);
     if h != 0 {

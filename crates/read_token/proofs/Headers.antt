@@ -98,21 +98,21 @@ lengths false s c =
 
 module _ {h : ℕ} (full : Bool) (s : List ℕ) (e : h ≡ first_refusal (header_checks full s)) where
   -- A header with a number is refused as it says.
-  pub header-stops : (h ≡ 0 → ⊥) → Refused (h % 256) (0 + h / 256) ≡ as_answer row_count (reading full s)
+  pub header_stops : (h ≡ 0 → ⊥) → Refused (h % 256) (0 + h / 256) ≡ as_answer row_count (reading full s)
   unfolding reading
-  header-stops n =
+  header_stops n =
       refused_told row_count
       (stops 0 (header_checks full s) (sections (suc (stated s)) full (external (id_of s)) [] 8 (drop 8 (take (stated s) s))) refl e n)
 
   -- What a header without a number says of the lengths.
-  pub header-lengths : h ≡ 0 → Lengths s
-  header-lengths z = lengths full s (all_hold (header_checks full s) refl (sym z ∙ e))
+  pub header_lengths : h ≡ 0 → Lengths s
+  header_lengths z = lengths full s (all_hold (header_checks full s) refl (sym z ∙ e))
 
   -- After it the sections in the stated length are read.
-  pub header-goes : h ≡ 0 → as_answer row_count (reading full s) ≡ sections_answer (take (stated s) s) full (external (id_of s))
+  pub header_goes : h ≡ 0 → as_answer row_count (reading full s) ≡ sections_answer (take (stated s) s) full (external (id_of s))
   unfolding reading
-  header-goes z =
-      let l = (header-lengths z).within in
+  header_goes z =
+      let l = (header_lengths z).within in
       let n = length-drop 8 (take (stated s) s) in
       let m = length-take-le (stated s) s l in
       ap (as_answer row_count)
@@ -127,8 +127,8 @@ module _ {h : ℕ} (s : List ℕ) (e : h ≡ first_refusal (header_checks true s
       let w = and_split (leb (length s) longest) (eqb (stated s) (length s)) c.1.1.1.0 in
       eqb-true (stated s) (length s) w.1
 
-  pub whole-goes : answer s ≡ sections_answer s true (external (id_of s))
+  pub whole_goes : answer s ≡ sections_answer s true (external (id_of s))
   unfolding answer
-  whole-goes =
-      header-goes true s e z
+  whole_goes =
+      header_goes true s e z
       ∙ ap (λ (r : List ℕ). sections_answer r true (external (id_of s))) (take_all (stated s) s (omega (arith, whole_length)))

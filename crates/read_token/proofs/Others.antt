@@ -16,7 +16,7 @@ use Rattle.format.specs.declared.Answer.TheVariants.{Accepted}
 use Rattle.format.proofs.Finding.{every_kind, section_kind_sound, section_kind_told}
 use Rattle.read_sections.specs.Refusals.{first_refusal, unless, section_rows}
 use Rattle.read_sections.proofs.Laws.{byte_number}
-use Rattle.read_sections.proofs.Heads.{section-stops, plain_found}
+use Rattle.read_sections.proofs.Heads.{section_stops, plain_found}
 
 -- The kind of the section at p, from its first byte.
 pub kind_at : (k : Kind) (s : List ℕ) (p : ℕ) → p + 4 ≤ length s → is_subsection k ≡ false → get_or s p 0 ≡ section_id k
@@ -33,7 +33,7 @@ unfolding unless as_answer
 alone_told full x k before s p zero h e a t r i =
     sym (ap (as_answer section_rows) (plain_found full x k before s p h e a refl (t x (rule_before (part_in k (drop p s)) before)) r i))
 alone_told full x k before s p (suc n) h e a t r i =
-    section-stops full x k before s p h e a refl (t x (rule_before (part_in k (drop p s)) before)) (λ q. omega arith)
+    section_stops full x k before s p h e a refl (t x (rule_before (part_in k (drop p s)) before)) (λ q. omega arith)
 
 -- An id other than the five is no section's.
 none_of : (a b c d e f : Bool) → (a || (b || (c || (d || (e || f))))) ≡ true → a ≡ false → b ≡ false → c ≡ false → d ≡ false → e ≡ false → f ≡ false → ⊥

@@ -25,20 +25,20 @@ module _ {s : List ℕ} {full x : Bool} {seen : List Bool} {p n : ℕ} {ids : Li
   run_short e = refused_here s full x p w.read h (short_here s full x w.read.before p (omega arith) e)
 
   -- The rule is refused.
-  pub run-refused : {m q : ℕ} {new : List ℕ} {r : Answer} → RuleAnswered full x w.read.before s p new r → r ≡ Refused m q
+  pub run_refused : {m q : ℕ} {new : List ℕ} {r : Answer} → RuleAnswered full x w.read.before s p new r → r ≡ Refused m q
       → Refused m q ≡ sections_answer s full x
-  run-refused a e = refused_here s full x p w.read h (sym e ∙ a.same)
+  run_refused a e = refused_here s full x p w.read h (sym e ∙ a.same)
 
   -- The rule is found.
-  pub run-found : {k : ℕ} {new : List ℕ} {r : Answer} → RuleAnswered full x w.read.before s p new r → r ≡ Accepted k
+  pub run_found : {k : ℕ} {new : List ℕ} {r : Answer} → RuleAnswered full x w.read.before s p new r → r ≡ Accepted k
       → Found s full x w.read.before p k
-  run-found a e = found_here s full x w.read.before p h (sym e ∙ a.same)
+  run_found a e = found_here s full x w.read.before p h (sym e ∙ a.same)
 
   pub run_more : {k l : ℕ} {new : List ℕ} {r : Answer} → RuleAnswered full x w.read.before s p new r → r ≡ Accepted k
       → get_or s p 0 ≡ 0x12 → l ≡ stated (drop p s) → Running s full x seen (p + l) (n + k) new
   unfolding read_more
   run_more {k} {l} {new} a e i el =
-      let f = run-found a e in
+      let f = run_found a e in
       let c : Section = f.section in
       let here = rule_here s p c f.stands h i in
       let g = a.held c f.read in
@@ -53,7 +53,7 @@ later s first p l h i e = go (eqb first p) refl
   where
     go : (b : Bool) → eqb first p ≡ b → first < p
     go true q = absurd (e (ap (λ (j : ℕ). get_or s j 0) (sym (eqb-true first p q)) ∙ byte_number s first h ∙ i))
-    go false q = some-less (eqb-false first p q)
+    go false q = some_less (eqb-false first p q)
       where
-        some-less : (first ≡ p → ⊥) → first < p
-        some-less d = omega arith
+        some_less : (first ≡ p → ⊥) → first < p
+        some_less d = omega arith

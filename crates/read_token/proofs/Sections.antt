@@ -29,21 +29,21 @@ id_here : (s : List ℕ) (p : ℕ) (c : Section) → Stands (drop p s) c → p <
 id_here s p c w h = (section_kind_sound (id_of (drop p s)) c.head.kind w.kind).1 ∙ at_here s p 1 ∙ sym (byte_number s p h)
 
 module _ {s : List ℕ} {full x : Bool} {p n : ℕ} {seen : List Bool} (w : Turn s full x p n seen) (h : p < length s) where
-  pub turn-short : length s < p + 4 → Refused 6 p ≡ sections_answer s full x
-  turn-short e = refused_here s full x p w.read h (short_here s full x w.read.before p (omega arith) e)
+  pub turn_short : length s < p + 4 → Refused 6 p ≡ sections_answer s full x
+  turn_short e = refused_here s full x p w.read h (short_here s full x w.read.before p (omega arith) e)
 
   -- The section is refused.
-  pub turn-refused : {m q : ℕ} {r : Answer} → ((before : List Section) → Marked seen before → r ≡ as_answer section_rows (section full x before p (drop p s)))
+  pub turn_refused : {m q : ℕ} {r : Answer} → ((before : List Section) → Marked seen before → r ≡ as_answer section_rows (section full x before p (drop p s)))
       → r ≡ Refused m q → Refused m q ≡ sections_answer s full x
-  turn-refused a e = refused_here s full x p w.read h (sym e ∙ a w.read.before w.read.marked)
+  turn_refused a e = refused_here s full x p w.read h (sym e ∙ a w.read.before w.read.marked)
 
   -- The section is found.
-  pub turn-found : {k : ℕ} {r : Answer} → ((before : List Section) → Marked seen before → r ≡ as_answer section_rows (section full x before p (drop p s)))
+  pub turn_found : {k : ℕ} {r : Answer} → ((before : List Section) → Marked seen before → r ≡ as_answer section_rows (section full x before p (drop p s)))
       → r ≡ Accepted k → Found s full x w.read.before p k
-  turn-found a e = found_here s full x w.read.before p h (sym e ∙ a w.read.before w.read.marked)
+  turn_found a e = found_here s full x w.read.before p h (sym e ∙ a w.read.before w.read.marked)
 
-  pub turn-id : {k : ℕ} → Found s full x w.read.before p k → get_or s p 0 < 0x16
-  turn-id f = let e = id_here s p f.section f.stands h in let l = id_small f.section.head.kind in omega arith
+  pub turn_id : {k : ℕ} → Found s full x w.read.before p k → get_or s p 0 < 0x16
+  turn_id f = let e = id_here s p f.section f.stands h in let l = id_small f.section.head.kind in omega arith
 
   pub turn_more : {k l i : ℕ} → Found s full x w.read.before p k → l ≡ stated (drop p s) → i ≡ get_or s p 0
       → Turn s full x (p + l) (n + k) (set seen i true)
@@ -58,8 +58,8 @@ module _ {s : List ℕ} {full x : Bool} {p n : ℕ} {seen : List Bool} (w : Turn
       }
 
   -- After a run of rules.
-  pub turn-ran : {q m : ℕ} {r : Run} → Ran s full x seen p r → r ≡ Next q m → Turn s full x q m seen × (p < q)
-  turn-ran a e =
+  pub turn_ran : {q m : ℕ} {r : Run} → Ran s full x seen p r → r ≡ Next q m → Turn s full x q m seen × (p < q)
+  turn_ran a e =
       let g = subst (λ (y : Run). Ran s full x seen p y) e a in
       (record { read = g.0; marks = w.marks }, g.1)
 

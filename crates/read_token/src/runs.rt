@@ -16,6 +16,7 @@ use read_rules::rule_at;
 
 // A run of rules: the place after it and the rows so far, or its refusal.
 #[derive(Drop)]
+#[derive(Clone, Copy)]
 pub(crate) enum Run {
     Next(usize, u32),
     Fault(u32, u32),

@@ -1,4 +1,6 @@
 // Public: the reading of a token, its answer, and its rows into a lent table. The calls ask nothing.
+#![tactic(auto)]
+
 pub mod draft; // draft.rt: the reading of a draft
 
 ghost use Rattle.std.specs.Prelude.{◌≡◌};

@@ -63,11 +63,11 @@ told_kind : {bs : List ℕ} {k m : ℕ} {x : Row} (p : Part) → RowOf bs k p �
     → x.kind ≡ kind_number p.kind
 told_kind {bs} {k} {m} {x} p r e =
     let w = at_row p r in
-    let q : x ≡ w.0 = record-inj (e ∙ w.1.1.0) in
+    let q : x ≡ w.0 = record_inj (e ∙ w.1.1.0) in
     ap (λ (y : Row). y.kind) q ∙ w.1.1.1
   where
-    record-inj : {y z : Row} {i j : ℕ} → Record y i ≡ Record z j → y ≡ z
-    record-inj h = cc
+    record_inj : {y z : Row} {i j : ℕ} → Record y i ≡ Record z j → y ≡ z
+    record_inj h = cc
 
 pub kind_told : {bs : List ℕ} {k m : ℕ} {x : Row} → IsThere bs k → Record x m ≡ step_after bs 8 k → HasKind bs k x.kind
 kind_told w e = record { there = w; told = λ p r. told_kind p r e }
@@ -134,11 +134,11 @@ module _ {bs : List ℕ} {n k : ℕ} (h : HasRows bs n) (lt : k < n) where
   row_there = let p = next_row h.legal in record { part = p.0; row = p.1.0 }
 
   -- Where all parts that are left are added by the definition, the call for the next one is accepted, and the rest is left.
-  pub one-added : {a : Answer} {x : List ℕ} (d : List ℕ) (l : Legal bs) (e : List ℕ) → additions (drop k l.parts) d ≡ found e
+  pub one_added : {a : Answer} {x : List ℕ} (d : List ℕ) (l : Legal bs) (e : List ℕ) → additions (drop k l.parts) d ≡ found e
       → AddsRow bs k d a x
       → ((m : ℕ) × (a ≡ Accepted m)) × (additions (drop (k + 1) l.parts) x ≡ found e)
   unfolding additions as_answer
-  one-added {a} {x} d l e s f =
+  one_added {a} {x} d l e s f =
       let p = next_row l in
       let w = followed (addition p.0.kind p.0.fields d) _ e (sym (ap (λ (qs : List Part). additions qs d) p.1.1) ∙ s) in
       let t : x ≡ draft_after (found w.0) d = (f p.0 p.1.0).draft ∙ ap (λ (o : Outcome (List ℕ)). draft_after o d) w.1 in
@@ -207,8 +207,8 @@ own_refusal bs d e =
 
 module _ {n : ℕ} (bs d : List ℕ) (e : Accepted n ≡ answer bs) (b : Bytes bs) where
   -- An accepted token is legal, with that many rows.
-  pub has-rows : HasRows bs n
-  has-rows =
+  pub has_rows : HasRows bs n
+  has_rows =
       let w = accepted_read bs e in
       let l = read_parts bs w.sections b w.read in
       record { legal = l.0; rows = ap length l.1 ∙ sym w.rows }
@@ -217,9 +217,9 @@ module _ {n : ℕ} (bs d : List ℕ) (e : Accepted n ≡ answer bs) (b : Bytes b
   pub no_room : length d < length bs → (Refused 23 0 ≡ write_answer (rebuilt bs d)) × (d ≡ draft_after (rebuilt bs d) d)
   no_room h =
       refused_written (rebuilt bs d) d
-      (record { cause = fault 23 0 0; is = without_room bs d has-rows.legal h; number = refl; place = refl })
+      (record { cause = fault 23 0 0; is = without_room bs d has_rows.legal h; number = refl; place = refl })
 
   -- The very bytes.
   pub whole : {a : Answer} {x : List ℕ} → length bs ≤ length d → a ≡ Accepted (length bs) → x ≡ bs ++ drop (length bs) d
       → (a ≡ write_answer (rebuilt bs d)) × (x ≡ draft_after (rebuilt bs d) d)
-  whole h f g = let w = found_written (rebuilt bs d) d bs (gives_back bs d has-rows.legal h) refl in (f ∙ w.0, g ∙ w.1)
+  whole h f g = let w = found_written (rebuilt bs d) d bs (gives_back bs d has_rows.legal h) refl in (f ∙ w.0, g ∙ w.1)

@@ -1,5 +1,7 @@
 // Public: a token built again by the writer's calls, part by part, from its rows and the views of their fields. The call
 // asks nothing.
+#![tactic(auto)]
+
 ghost use Rattle.std.specs.Prelude.{◌≡◌, List, ◌++◌, ℕ, ◌≤◌, length, drop};
 ghost use Rattle.format.specs.Legal.{Legal};
 ghost use Rattle.format.specs.Reading.{found};

@@ -9,8 +9,8 @@ use views::view;
 
 // Section 11.
 pub fn public_key(token: &[u8], row: u32, draft: &mut [u8]) -> Answer
-    requires { RowOfKind token.now row Parts.publicKey }
-    ensures { AddsViews token.now row Parts.publicKey draft.old result draft.new }
+    requires { RowOfKind token.now row Parts.public_key }
+    ensures { AddsViews token.now row Parts.public_key draft.old result draft.new }
 {
     let bits = two_of(token, row, 5);
     let exponent = view(token, row, 7);
@@ -53,8 +53,8 @@ pub fn information(token: &[u8], row: u32, draft: &mut [u8]) -> Answer
 
 // Section 15.
 pub fn application_data(token: &[u8], row: u32, draft: &mut [u8]) -> Answer
-    requires { RowOfKind token.now row Parts.applicationData }
-    ensures { AddsViews token.now row Parts.applicationData draft.old result draft.new }
+    requires { RowOfKind token.now row Parts.application_data }
+    ensures { AddsViews token.now row Parts.application_data draft.old result draft.new }
 {
     let data = view(token, row, 4);
     add_key_and_data::application_data(draft, data)

@@ -9,8 +9,8 @@ use views::view;
 
 // 12/0001.
 pub fn transport_variant(token: &[u8], row: u32, draft: &mut [u8]) -> Answer
-    requires { RowOfKind token.now row Parts.transportVariant }
-    ensures { AddsViews token.now row Parts.transportVariant draft.old result draft.new }
+    requires { RowOfKind token.now row Parts.transport_variant }
+    ensures { AddsViews token.now row Parts.transport_variant draft.old result draft.new }
 {
     let variant = view(token, row, 5);
     add_variant_and_references::transport_variant(draft, variant)
@@ -18,8 +18,8 @@ pub fn transport_variant(token: &[u8], row: u32, draft: &mut [u8]) -> Answer
 
 // 12/0002.
 pub fn transport_rule(token: &[u8], row: u32, draft: &mut [u8]) -> Answer
-    requires { RowOfKind token.now row Parts.transportRule }
-    ensures { AddsViews token.now row Parts.transportRule draft.old result draft.new }
+    requires { RowOfKind token.now row Parts.transport_rule }
+    ensures { AddsViews token.now row Parts.transport_rule draft.old result draft.new }
 {
     let id = view(token, row, 4);
     add_variant_and_references::transport_rule(draft, id)
@@ -27,8 +27,8 @@ pub fn transport_rule(token: &[u8], row: u32, draft: &mut [u8]) -> Answer
 
 // 12/0003.
 pub fn export_parameters(token: &[u8], row: u32, draft: &mut [u8]) -> Answer
-    requires { RowOfKind token.now row Parts.exportParameters }
-    ensures { AddsViews token.now row Parts.exportParameters draft.old result draft.new }
+    requires { RowOfKind token.now row Parts.export_parameters }
+    ensures { AddsViews token.now row Parts.export_parameters draft.old result draft.new }
 {
     let minimum = one_of(token, row, 5);
     let maximum = one_of(token, row, 6);
@@ -39,8 +39,8 @@ pub fn export_parameters(token: &[u8], row: u32, draft: &mut [u8]) -> Answer
 
 // 12/0004.
 pub fn source_rule(token: &[u8], row: u32, draft: &mut [u8]) -> Answer
-    requires { RowOfKind token.now row Parts.sourceRule }
-    ensures { AddsViews token.now row Parts.sourceRule draft.old result draft.new }
+    requires { RowOfKind token.now row Parts.source_rule }
+    ensures { AddsViews token.now row Parts.source_rule draft.old result draft.new }
 {
     let id = view(token, row, 4);
     add_variant_and_references::source_rule(draft, id)
@@ -48,8 +48,8 @@ pub fn source_rule(token: &[u8], row: u32, draft: &mut [u8]) -> Answer
 
 // 12/0005.
 pub fn token_parameters(token: &[u8], row: u32, draft: &mut [u8]) -> Answer
-    requires { RowOfKind token.now row Parts.tokenParameters }
-    ensures { AddsViews token.now row Parts.tokenParameters draft.old result draft.new }
+    requires { RowOfKind token.now row Parts.token_parameters }
+    ensures { AddsViews token.now row Parts.token_parameters draft.old result draft.new }
 {
     let mask = view(token, row, 6);
     let template = view(token, row, 7);

@@ -1,6 +1,8 @@
 // Program: reads one token from standard input, at most 3,501 bytes, and builds it again by the writer's calls: in a draft that is
 // a byte too short, then in one with room. Writes the first line of each; of the rebuilt token then its fields, a line for
 // each with its row, its number and its bytes; and how many bytes of the draft after it are as they were.
+#![tactic(auto)]
+
 ghost use Rattle.std.specs.Prelude.{◌≤◌, length};
 
 use format::{Answer, LONGEST};

@@ -1,4 +1,6 @@
 // Public: the calls for host programs in C. Names and order of parameters stand in include/trusted_block.h.
+#![tactic(auto)]
+
 mod drafts; // drafts.rt: the start and the finish of a draft
 mod sections; // sections.rt: the additions of sections
 mod subsections; // subsections.rt: the additions of subsections

@@ -18,9 +18,9 @@ pub extern "C" fn tb_add_public_key(
     flags: u32,
     second: &mut u32,
 ) -> u32
-    ensures number { result ≡ number_of (write_answer (addition Parts.publicKey (public_key_fields modulus_bits exponent.now modulus.now flags) draft.old)) }
-    ensures draft { draft.new ≡ draft_after (addition Parts.publicKey (public_key_fields modulus_bits exponent.now modulus.now flags) draft.old) draft.old }
-    ensures second { second.new ≡ second_of (write_answer (addition Parts.publicKey (public_key_fields modulus_bits exponent.now modulus.now flags) draft.old)) }
+    ensures number { result ≡ number_of (write_answer (addition Parts.public_key (public_key_fields modulus_bits exponent.now modulus.now flags) draft.old)) }
+    ensures draft { draft.new ≡ draft_after (addition Parts.public_key (public_key_fields modulus_bits exponent.now modulus.now flags) draft.old) draft.old }
+    ensures second { second.new ≡ second_of (write_answer (addition Parts.public_key (public_key_fields modulus_bits exponent.now modulus.now flags) draft.old)) }
 {
     give(
         add_key_and_data::public_key(draft, modulus_bits, exponent, modulus, flags),
@@ -81,9 +81,9 @@ pub extern "C" fn tb_add_information(draft: &mut [u8], flags: u32, second: &mut 
 // Adds application data, section 15.
 #[unsafe(no_mangle)]
 pub extern "C" fn tb_add_application_data(draft: &mut [u8], data: &[u8], second: &mut u32) -> u32
-    ensures number { result ≡ number_of (write_answer (addition Parts.applicationData («data».now ∷ []) draft.old)) }
-    ensures draft { draft.new ≡ draft_after (addition Parts.applicationData («data».now ∷ []) draft.old) draft.old }
-    ensures second { second.new ≡ second_of (write_answer (addition Parts.applicationData («data».now ∷ []) draft.old)) }
+    ensures number { result ≡ number_of (write_answer (addition Parts.application_data («data».now ∷ []) draft.old)) }
+    ensures draft { draft.new ≡ draft_after (addition Parts.application_data («data».now ∷ []) draft.old) draft.old }
+    ensures second { second.new ≡ second_of (write_answer (addition Parts.application_data («data».now ∷ []) draft.old)) }
 {
     give(add_key_and_data::application_data(draft, data), second)
 }

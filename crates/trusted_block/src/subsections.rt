@@ -15,9 +15,9 @@ pub extern "C" fn tb_add_transport_variant(
     variant: &[u8],
     second: &mut u32,
 ) -> u32
-    ensures number { result ≡ number_of (write_answer (addition Parts.transportVariant (variant.now ∷ []) draft.old)) }
-    ensures draft { draft.new ≡ draft_after (addition Parts.transportVariant (variant.now ∷ []) draft.old) draft.old }
-    ensures second { second.new ≡ second_of (write_answer (addition Parts.transportVariant (variant.now ∷ []) draft.old)) }
+    ensures number { result ≡ number_of (write_answer (addition Parts.transport_variant (variant.now ∷ []) draft.old)) }
+    ensures draft { draft.new ≡ draft_after (addition Parts.transport_variant (variant.now ∷ []) draft.old) draft.old }
+    ensures second { second.new ≡ second_of (write_answer (addition Parts.transport_variant (variant.now ∷ []) draft.old)) }
 {
     give(
         add_variant_and_references::transport_variant(draft, variant),
@@ -28,9 +28,9 @@ pub extern "C" fn tb_add_transport_variant(
 // Adds the rule of the transport key, 0002 of a rule.
 #[unsafe(no_mangle)]
 pub extern "C" fn tb_add_transport_rule(draft: &mut [u8], rule_id: &[u8], second: &mut u32) -> u32
-    ensures number { result ≡ number_of (write_answer (addition Parts.transportRule (rule_id.now ∷ []) draft.old)) }
-    ensures draft { draft.new ≡ draft_after (addition Parts.transportRule (rule_id.now ∷ []) draft.old) draft.old }
-    ensures second { second.new ≡ second_of (write_answer (addition Parts.transportRule (rule_id.now ∷ []) draft.old)) }
+    ensures number { result ≡ number_of (write_answer (addition Parts.transport_rule (rule_id.now ∷ []) draft.old)) }
+    ensures draft { draft.new ≡ draft_after (addition Parts.transport_rule (rule_id.now ∷ []) draft.old) draft.old }
+    ensures second { second.new ≡ second_of (write_answer (addition Parts.transport_rule (rule_id.now ∷ []) draft.old)) }
 {
     give(
         add_variant_and_references::transport_rule(draft, rule_id),
@@ -48,9 +48,9 @@ pub extern "C" fn tb_add_export_parameters(
     vector: &[u8],
     second: &mut u32,
 ) -> u32
-    ensures number { result ≡ number_of (write_answer (addition Parts.exportParameters (export_fields minimum maximum variant.now vector.now) draft.old)) }
-    ensures draft { draft.new ≡ draft_after (addition Parts.exportParameters (export_fields minimum maximum variant.now vector.now) draft.old) draft.old }
-    ensures second { second.new ≡ second_of (write_answer (addition Parts.exportParameters (export_fields minimum maximum variant.now vector.now) draft.old)) }
+    ensures number { result ≡ number_of (write_answer (addition Parts.export_parameters (export_fields minimum maximum variant.now vector.now) draft.old)) }
+    ensures draft { draft.new ≡ draft_after (addition Parts.export_parameters (export_fields minimum maximum variant.now vector.now) draft.old) draft.old }
+    ensures second { second.new ≡ second_of (write_answer (addition Parts.export_parameters (export_fields minimum maximum variant.now vector.now) draft.old)) }
 {
     give(
         add_export_parameters::export_parameters(draft, minimum, maximum, variant, vector),
@@ -61,9 +61,9 @@ pub extern "C" fn tb_add_export_parameters(
 // Adds the rule of the source key, 0004 of a rule.
 #[unsafe(no_mangle)]
 pub extern "C" fn tb_add_source_rule(draft: &mut [u8], rule_id: &[u8], second: &mut u32) -> u32
-    ensures number { result ≡ number_of (write_answer (addition Parts.sourceRule (rule_id.now ∷ []) draft.old)) }
-    ensures draft { draft.new ≡ draft_after (addition Parts.sourceRule (rule_id.now ∷ []) draft.old) draft.old }
-    ensures second { second.new ≡ second_of (write_answer (addition Parts.sourceRule (rule_id.now ∷ []) draft.old)) }
+    ensures number { result ≡ number_of (write_answer (addition Parts.source_rule (rule_id.now ∷ []) draft.old)) }
+    ensures draft { draft.new ≡ draft_after (addition Parts.source_rule (rule_id.now ∷ []) draft.old) draft.old }
+    ensures second { second.new ≡ second_of (write_answer (addition Parts.source_rule (rule_id.now ∷ []) draft.old)) }
 {
     give(
         add_variant_and_references::source_rule(draft, rule_id),
@@ -80,9 +80,9 @@ pub extern "C" fn tb_add_token_parameters(
     label_template: &[u8],
     second: &mut u32,
 ) -> u32
-    ensures number { result ≡ number_of (write_answer (addition Parts.tokenParameters (mask.now ∷ template.now ∷ label_template.now ∷ []) draft.old)) }
-    ensures draft { draft.new ≡ draft_after (addition Parts.tokenParameters (mask.now ∷ template.now ∷ label_template.now ∷ []) draft.old) draft.old }
-    ensures second { second.new ≡ second_of (write_answer (addition Parts.tokenParameters (mask.now ∷ template.now ∷ label_template.now ∷ []) draft.old)) }
+    ensures number { result ≡ number_of (write_answer (addition Parts.token_parameters (mask.now ∷ template.now ∷ label_template.now ∷ []) draft.old)) }
+    ensures draft { draft.new ≡ draft_after (addition Parts.token_parameters (mask.now ∷ template.now ∷ label_template.now ∷ []) draft.old) draft.old }
+    ensures second { second.new ≡ second_of (write_answer (addition Parts.token_parameters (mask.now ∷ template.now ∷ label_template.now ∷ []) draft.old)) }
 {
     give(
         add_token_parameters::token_parameters(draft, mask, template, label_template),

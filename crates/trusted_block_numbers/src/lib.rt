@@ -1,5 +1,7 @@
 // Internal: an answer, the place of a field and a step of the walk as the numbers that a host program in C gets. The calls ask
 // nothing.
+#![tactic(auto)]
+
 pub mod steps; // steps.rt: a step of the walk
 
 ghost use Rattle.std.specs.Prelude.{◌≡◌};

@@ -11,8 +11,8 @@ use borrow.Author.Tests.{eqb-true, ne_eqb, ltb-true, ltb-false}
 use Rattle.format.specs.Bytes.{All, number, bytes_at}
 use Rattle.format.specs.Layout.{Item, code, zeros, own, count, fixed, counted}
 use Rattle.format.specs.Slots.{slots}
-use Rattle.format.specs.Parts.{publicKey, rule, transportVariant, transportRule, exportParameters, sourceRule, tokenParameters}
-use Rattle.format.specs.Parts.{name, information, protection, dates, applicationData, Kind, kind_number, layout}
+use Rattle.format.specs.Parts.{public_key, rule, transport_variant, transport_rule, export_parameters, source_rule, token_parameters}
+use Rattle.format.specs.Parts.{name, information, protection, dates, application_data, Kind, kind_number, layout}
 use Rattle.format.proofs.Numbers.{number_one}
 use Rattle.format.proofs.Finding.{and_split, number_told}
 use Rattle.format.proofs.Grouping.{is_false}
@@ -51,18 +51,18 @@ pub no_kind : (n v : ℕ) → (n ≡ 0x110000 → ⊥) → (n ≡ 0x120000 → �
     → (n ≡ 0x120002 → ⊥) → (n ≡ 0x120003 → ⊥) → (n ≡ 0x120004 → ⊥) → (n ≡ 0x120005 → ⊥)
     → (n ≡ 0x130000 → ⊥) → (n ≡ 0x140000 → ⊥) → (n ≡ 0x140001 → ⊥) → (n ≡ 0x140002 → ⊥) → (n ≡ 0x150000 → ⊥)
     → ShowsKind n v
-no_kind n v a b c d e f g h i j k l publicKey q = absurd (a q)
+no_kind n v a b c d e f g h i j k l public_key q = absurd (a q)
 no_kind n v a b c d e f g h i j k l rule q = absurd (b q)
-no_kind n v a b c d e f g h i j k l transportVariant q = absurd (c q)
-no_kind n v a b c d e f g h i j k l transportRule q = absurd (d q)
-no_kind n v a b c d e f g h i j k l exportParameters q = absurd (e q)
-no_kind n v a b c d e f g h i j k l sourceRule q = absurd (f q)
-no_kind n v a b c d e f g h i j k l tokenParameters q = absurd (g q)
+no_kind n v a b c d e f g h i j k l transport_variant q = absurd (c q)
+no_kind n v a b c d e f g h i j k l transport_rule q = absurd (d q)
+no_kind n v a b c d e f g h i j k l export_parameters q = absurd (e q)
+no_kind n v a b c d e f g h i j k l source_rule q = absurd (f q)
+no_kind n v a b c d e f g h i j k l token_parameters q = absurd (g q)
 no_kind n v a b c d e f g h i j k l name q = absurd (h q)
 no_kind n v a b c d e f g h i j k l information q = absurd (i q)
 no_kind n v a b c d e f g h i j k l protection q = absurd (j q)
 no_kind n v a b c d e f g h i j k l dates q = absurd (k q)
-no_kind n v a b c d e f g h i j k l applicationData q = absurd (l q)
+no_kind n v a b c d e f g h i j k l application_data q = absurd (l q)
 
 -- ---- one field
 

@@ -74,9 +74,9 @@ module _ {s : List ℕ} {at kind field n o first second j : ℕ} where
   )
 
   -- Where the field asked for is the first that is left, it lies here.
-  pub lies-here : (w : Field s at kind field n o first second j) → j ≡ 0 → {v : ℕ} → v ≡ width_of (n % 16) first second
+  pub lies_here : (w : Field s at kind field n o first second j) → j ≡ 0 → {v : ℕ} → v ≡ width_of (n % 16) first second
       → InSlot s at kind field (At o v)
-  lies-here w h {v} e p q =
+  lies_here w h {v} e p q =
       let y = w.lying in
       let r : List ℕ = drop at s in
       let x : Slot = record { item = w.item; offset = y.offset; width = item_width y.counts w.item } in
@@ -123,8 +123,8 @@ module _ {s : List ℕ} {at kind field n o first second j : ℕ} where
       }
 
   -- After the last field there is none.
-  pub lies-nowhere : Slotting s at kind field n o first second j → n ≡ 0 → InSlot s at kind field (Missing 22 0)
-  lies-nowhere w h p q = go w.items w.lying
+  pub lies_nowhere : Slotting s at kind field n o first second j → n ≡ 0 → InSlot s at kind field (Missing 22 0)
+  lies_nowhere w h p q = go w.items w.lying
     where
       go : (l : List Item) → Lying s at kind field n o first second j l → Missing 22 0 ≡ slot_of s at p field
       go [] y =

@@ -1,4 +1,6 @@
 // Internal: where the fields of a part lie, found by going through its kind's layout.
+#![tactic(auto)]
+
 ghost use Rattle.std.specs.Prelude.{◌≡◌};
 ghost use Rattle.view_layouts.specs.Digits.{ShowsKind, width_of, CountRoom, CountBehind, Standing, InSlot};
 

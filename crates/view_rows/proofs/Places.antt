@@ -37,10 +37,10 @@ moved {s} {b} {c} {e} {i} {qs} w = (w.0, subst (λ (d : Before). Left s d e i qs
 module _ {s : List ℕ} {p : Place} where
   -- ---- the row
 
-  pub section-row : {l n : ℕ} → p.at ≡ p.end → l ≡ number (bytes_at s (p.at + 2) 2)
+  pub section_row : {l n : ℕ} → p.at ≡ p.end → l ≡ number (bytes_at s (p.at + 2) 2)
       → n ≡ rule_in (get_or s p.at 0) (rules_with (get_or s p.at 0) p.rules)
       → RowAt s p (record { kind = get_or s p.at 0 * 65536; offset = p.at; length = l; owner = p.row; rule = n })
-  section-row h el en q qs y = Places.section-row q qs y h el en
+  section_row h el en q qs y = Places.section_row q qs y h el en
 
   pub sub_row : {l g n : ℕ} → (p.at ≡ p.end → ⊥) → l ≡ number (bytes_at s (p.at + 2) 2) → g ≡ number (bytes_at s p.at 2)
       → n ≡ rule_in p.id p.rules
@@ -49,14 +49,14 @@ module _ {s : List ℕ} {p : Place} where
 
   -- ---- the place after
 
-  pub section-behind : {l m n : ℕ} → p.at ≡ p.end → l ≡ number (bytes_at s (p.at + 2) 2) → m ≡ own_length (get_or s p.at 0) l
+  pub section_behind : {l m n : ℕ} → p.at ≡ p.end → l ≡ number (bytes_at s (p.at + 2) 2) → m ≡ own_length (get_or s p.at 0) l
       → n ≡ rules_with (get_or s p.at 0) p.rules
       → Behind s p (record { at = p.at + m; end = p.at + l; id = get_or s p.at 0; row = p.row + 1; owner = p.row; rules = n })
-  section-behind h el em en q qs y = moved (Places.section-after q qs y h el em en)
+  section_behind h el em en q qs y = moved (Places.section_after q qs y h el em en)
 
-  pub sub-behind : {l : ℕ} → (p.at ≡ p.end → ⊥) → l ≡ number (bytes_at s (p.at + 2) 2)
+  pub sub_behind : {l : ℕ} → (p.at ≡ p.end → ⊥) → l ≡ number (bytes_at s (p.at + 2) 2)
       → Behind s p (record { at = p.at + l; end = p.end; id = p.id; row = p.row + 1; owner = p.owner; rules = p.rules })
-  sub-behind h el q qs y = moved (Places.sub-after q qs y h el)
+  sub_behind h el q qs y = moved (Places.sub_after q qs y h el)
 
   -- What of a part at a place a field's place is asked of.
   pub standing : {k : ℕ} (q : Part) (qs : List Part) → LeftAt s p (q ∷ qs) → k ≡ kind_number q.kind → Standing s p.at k

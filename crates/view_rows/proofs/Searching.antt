@@ -14,7 +14,7 @@ use Rattle.format.specs.declared.Where.{Where}
 use Rattle.format.specs.declared.Where.TheVariants.{Missing}
 use Rattle.view_layouts.specs.Digits.{Standing, InSlot}
 use Rattle.view_layouts.proofs.Turns.{next_element}
-use Rattle.read_rows.proofs.Places.{left-length, begins, there}
+use Rattle.read_rows.proofs.Places.{left_length, begins, there}
 use Rattle.view_rows.specs.Walk.{Whole, before, LeftAt, BeginsAt, Starts, RowAt, Behind, SameRow, Seeking}
 use Rattle.view_rows.proofs.Places.{starts, standing}
 use Rattle.view_rows.specs.declared.Place.{Place}
@@ -39,15 +39,15 @@ seeks {s} {p} {row} w e = record {
 }
 
 module _ {s : List ℕ} {row : ℕ} {p : Place} {j : ℕ} where
-  pub seek-begins : Seeking s row p j → p.at < length s → BeginsAt s p
-  seek-begins w h = begins w.parts w.left h
+  pub seek_begins : Seeking s row p j → p.at < length s → BeginsAt s p
+  seek_begins w h = begins w.parts w.left h
 
   -- It stands after this part.
-  pub seek-on : {r : Place} → Seeking s row p j → p.at < length s → (j ≡ 0 → ⊥) → Behind s p r → Seeking s row r (j - 1)
-  seek-on {r} w h k b = go w.parts w.left w.same
+  pub seek_on : {r : Place} → Seeking s row p j → p.at < length s → (j ≡ 0 → ⊥) → Behind s p r → Seeking s row r (j - 1)
+  seek_on {r} w h k b = go w.parts w.left w.same
     where
       go : (ps : List Part) → LeftAt s p ps → SameRow w.whole.sections row p j ps → Seeking s row r (j - 1)
-      go [] l e = absurd (let n = left-length l in omega arith)
+      go [] l e = absurd (let n = left_length l in omega arith)
       go (q ∷ qs) l e =
           let n = b q qs l in
           record {
@@ -60,9 +60,9 @@ module _ {s : List ℕ} {row : ℕ} {p : Place} {j : ℕ} where
           }
 
   -- It is the row of this part.
-  pub seek-stands : {x : Row} → Seeking s row p j → p.at < length s → RowAt s p x → Standing s p.at x.kind
-  seek-stands {x} w h e =
-      let y = seek-begins w h in
+  pub seek_stands : {x : Row} → Seeking s row p j → p.at < length s → RowAt s p x → Standing s p.at x.kind
+  seek_stands {x} w h e =
+      let y = seek_begins w h in
       standing y.part y.behind y.left (ap (λ (r : Row). r.kind) (e y.part y.behind y.left))
 
   pub seek_found : {x : Row} {field : ℕ} {v : Where} → Seeking s row p j → p.at < length s → j ≡ 0 → RowAt s p x
@@ -70,15 +70,15 @@ module _ {s : List ℕ} {row : ℕ} {p : Place} {j : ℕ} where
   seek_found {x} {field} {v} w h k e b = go w.parts w.left w.same
     where
       go : (ps : List Part) → LeftAt s p ps → SameRow w.whole.sections row p j ps → v ≡ field_at s row field
-      go [] l f = absurd (let n = left-length l in omega arith)
+      go [] l f = absurd (let n = left_length l in omega arith)
       go (q ∷ qs) l f =
           b q (ap (λ (r : Row). r.kind) (e q qs l))
           ∙ ap (of_row s field) (ap (get_elem? (placed (before p) (q ∷ qs))) (sym k) ∙ f)
           ∙ sym (field_found s w.whole row field)
 
   -- It is not there.
-  pub seek-none : (field : ℕ) → Seeking s row p j → length s ≤ p.at → Missing 22 0 ≡ field_at s row field
-  seek-none field w h = go w.parts w.left w.same
+  pub seek_none : (field : ℕ) → Seeking s row p j → length s ≤ p.at → Missing 22 0 ≡ field_at s row field
+  seek_none field w h = go w.parts w.left w.same
     where
       go : (ps : List Part) → LeftAt s p ps → SameRow w.whole.sections row p j ps → Missing 22 0 ≡ field_at s row field
       go [] l f = ap (of_row s field) f ∙ sym (field_found s w.whole row field)

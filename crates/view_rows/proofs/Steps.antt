@@ -16,7 +16,7 @@ use Rattle.format.specs.declared.Step.TheVariants.{Record, End, Stopped}
 use Rattle.format.proofs.Grouping.{is_true, is_false}
 use Rattle.format.proofs.Unique.{size_any}
 use Rattle.read_rows.proofs.Places as Places
-use Rattle.read_rows.proofs.Places.{left-length, begins, there}
+use Rattle.read_rows.proofs.Places.{left_length, begins, there}
 use Rattle.view_rows.specs.Walk.{Whole, before, LeftAt, BeginsAt, Starts, RowAt, Behind, SameStep, Stepping}
 use Rattle.view_rows.proofs.Places.{starts}
 use Rattle.view_rows.specs.declared.Place.{Place}
@@ -54,7 +54,7 @@ past e at b (q ∷ qs) h k =
 
 pub step_past : {s : List ℕ} {at : ℕ} → Whole s → length s < at → Stopped 22 0 ≡ step_at s at
 step_past {s} {at} w h =
-    let m = left-length (Places.starts s w.sections w.bytes w.read) in
+    let m = left_length (Places.starts s w.sections w.bytes w.read) in
     sym (step_found s w at ∙ past (length s) at after_header (parts_of w.sections) (omega arith) h)
 
 -- ---- the walk to the place
@@ -70,18 +70,18 @@ steps {s} {p} {at} w h e = record {
 
 module _ {s : List ℕ} {at : ℕ} {p : Place} where
   -- Before the place, and at it where it is not the token's end, a part begins.
-  pub step-begins : Stepping s at p → p.at < at → BeginsAt s p
-  step-begins w h = begins w.parts w.left (omega (arith, w.within))
+  pub step_begins : Stepping s at p → p.at < at → BeginsAt s p
+  step_begins w h = begins w.parts w.left (omega (arith, w.within))
 
-  pub step-there : Stepping s at p → p.at ≡ at → (at ≡ length s → ⊥) → BeginsAt s p
-  step-there w h k = begins w.parts w.left (omega (arith, w.within))
+  pub step_there : Stepping s at p → p.at ≡ at → (at ≡ length s → ⊥) → BeginsAt s p
+  step_there w h k = begins w.parts w.left (omega (arith, w.within))
 
   -- After this part.
-  pub step-on : {r : Place} → Stepping s at p → p.at < at → Behind s p r → Stepping s at r
-  step-on {r} w h b = go w.parts w.left w.same
+  pub step_on : {r : Place} → Stepping s at p → p.at < at → Behind s p r → Stepping s at r
+  step_on {r} w h b = go w.parts w.left w.same
     where
       go : (ps : List Part) → LeftAt s p ps → SameStep (length s) w.whole.sections at p ps → Stepping s at r
-      go [] l e = absurd (let n = left-length l in omega (arith, w.within))
+      go [] l e = absurd (let n = left_length l in omega (arith, w.within))
       go (q ∷ qs) l e =
           let n = b q qs l in
           record {
@@ -117,11 +117,11 @@ module _ {s : List ℕ} {at : ℕ} {p : Place} where
   step_row {r} {x} w h k b y = go w.parts w.left w.same
     where
       next : (qs : List Part) → LeftAt s r qs → next_place (length s) (rows_of (placed (before r) qs)) ≡ r.at
-      next [] l = let n = left-length l in omega arith
+      next [] l = let n = left_length l in omega arith
       next (q ∷ qs) l = refl
 
       go : (ps : List Part) → LeftAt s p ps → SameStep (length s) w.whole.sections at p ps → Record x r.at ≡ step_at s at
-      go [] l e = absurd (k (let n = left-length l in omega arith))
+      go [] l e = absurd (k (let n = left_length l in omega arith))
       go (q ∷ qs) l e =
           let n = b q qs l in
           let rs : List Row = rows_of (placed (after (before p) q) qs) in

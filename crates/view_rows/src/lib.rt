@@ -1,4 +1,6 @@
 // Internal: the fields and the rows of a token that the reading accepts, found by going over its parts.
+#![tactic(auto)]
+
 ghost use Rattle.std.specs.Prelude.{◌≡◌};
 ghost use Rattle.format.specs.Views.{field_at, step_at};
 ghost use Rattle.view_rows.specs.Walk.{Whole, Starts, BeginsAt, RowAt, Behind};
@@ -11,6 +13,7 @@ use view_layouts::slot_at;
 // A place where a part of the token begins, or its end: the id, the row and the end of the section before it, and how
 // many rows and rules come before.
 #[derive(Drop)]
+#[derive(Clone, Copy)]
 pub struct Place {
     pub at: usize,
     pub end: usize,

@@ -1,4 +1,6 @@
 // Public: the fields of a token by row and number, and the walk over its rows. Any bytes, row, field and place may be asked.
+#![tactic(auto)]
+
 ghost use Rattle.std.specs.Prelude.{◌≡◌};
 ghost use Rattle.format.specs.Views.{field_at, step_at};
 

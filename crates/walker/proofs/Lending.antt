@@ -60,8 +60,8 @@ module _ {M : Type 1} {𝓤 : Ura M} (𝓛 : Logic 𝓤) (at_mem : Memory → SP
     abbrev pub lent : GName → Walker → MutBor Walker
     lent δ d = record { ref_ptr = (b, 0); ghost_name = δ; now = d }
 
-    abbrev pub to-next : ℕ → GName → Walker → Next.Ghost
-    to-next a δ d = (((a ∷ κ, (κ, tt)), (PosShare.left q, (PosShare.right q, tt)), (meet_⊑_right (a ∷ []) κ, tt), (lent δ d, tt), (vptr b 0 ∷ [], tt)), tt)
+    abbrev pub to_next : ℕ → GName → Walker → Next.Ghost
+    to_next a δ d = (((a ∷ κ, (κ, tt)), (PosShare.left q, (PosShare.right q, tt)), (meet_⊑_right (a ∷ []) κ, tt), (lent δ d, tt), (vptr b 0 ∷ [], tt)), tt)
 
     -- what the lender keeps
     abbrev pub Kept : ℕ → GName → SProp 𝓤
@@ -69,13 +69,13 @@ module _ {M : Type 1} {𝓤 : Ura M} (𝓛 : Logic 𝓤) (at_mem : Memory → SP
 
     -- the reference and the lifetimes are what `next` asks
     goes : (a : ℕ) (δ : GName) (d : Walker)
-        → ent 𝓤 (sep 𝓤 (sem 𝓛 ((MutRef (named 0) (a ∷ κ) R).own_val (lent δ d) (vptr b 0 ∷ []))) (sep 𝓤 (A.lft (a ∷ κ) (PosShare.left q)) (A.lft κ (PosShare.right q)))) (Next.pre (to-next a δ d))
+        → ent 𝓤 (sep 𝓤 (sem 𝓛 ((MutRef (named 0) (a ∷ κ) R).own_val (lent δ d) (vptr b 0 ∷ []))) (sep 𝓤 (A.lft (a ∷ κ) (PosShare.left q)) (A.lft κ (PosShare.right q)))) (Next.pre (to_next a δ d))
     goes a δ d =
         qed 𝓛 (‵ ((MutRef (named 0) (a ∷ κ) R).own_val (lent δ d) (vptr b 0 ∷ [])) ∷ ‵ (flft (a ∷ κ) (PosShare.left q)) ∷ ‵ (flft κ (PosShare.right q)) ∷ []) ∵
         nothing ! $ move ! (1 ∷ 0 ∷ []) $ fjoin ! $ nothing ! $ move ! (3 ∷ 0 ∷ []) $ join ! $ move ! (2 ∷ 0 ∷ []) $ join ! $ join ! $ frame ! $ done !
 
     pub lend : (d : Walker)
-        → ent 𝓤 (sep 𝓤 (sem 𝓛 (Cell d)) (sep 𝓤 (sem 𝓛 (Own d)) (A.lft κ q))) (H.⇛ (ex 𝓤 (λ (a : ℕ). ex 𝓤 (λ (δ : GName). sep 𝓤 (Next.pre (to-next a δ d)) (Kept a δ)))))
+        → ent 𝓤 (sep 𝓤 (sem 𝓛 (Cell d)) (sep 𝓤 (sem 𝓛 (Own d)) (A.lft κ q))) (H.⇛ (ex 𝓤 (λ (a : ℕ). ex 𝓤 (λ (δ : GName). sep 𝓤 (Next.pre (to_next a δ d)) (Kept a δ)))))
     unfolding part_of
     lend d =
         qed 𝓛 (‵ (Cell d) ∷ ‵ (Own d) ∷ ‵ (flft κ q) ∷ []) ∵ updating ! $ use1 𝓛 (‵ (cell_at full_share R.mir (T'.lowered d ∷ []) b 0)) (𝓛.laws.at_raw full_share held_ty b 0 (T'.lowered d)) $
@@ -87,8 +87,8 @@ module _ {M : Type 1} {𝓤 : Ura M} (𝓛 : Logic 𝓤) (at_mem : Memory → SP
         move ! (3 ∷ []) $ use1 𝓛 (‵ (flft κ (PosShare.left q)) ⊛ ‵ (flft κ (PosShare.right q))) (𝓛.lfts.lft_split κ q) $ split ! $
         move ! (4 ∷ 0 ∷ []) $ use2 𝓛 (‵ (flft (a ∷ κ) (PosShare.left q)) ⊛ raw (Rest 𝓛 a (PosShare.left q))) (within_token 𝓛 a κ (PosShare.left q)) $ split ! $
         -- [the loan's token; the way back; κ's right half; the reference; the lender's part]
-        move ! (3 ∷ 0 ∷ 2 ∷ []) $ use3 𝓛 (raw (Next.pre (to-next a δ d))) (goes a δ d) $
-        at_once ! $ show ! (λ (c : ℕ). ex 𝓤 (λ (ε : GName). sep 𝓤 (Next.pre (to-next c ε d)) (Kept c ε))) a $ show ! (λ (ε : GName). sep 𝓤 (Next.pre (to-next a ε d)) (Kept a ε)) δ $ frame ! $ move ! (1 ∷ 0 ∷ []) $ done !))
+        move ! (3 ∷ 0 ∷ 2 ∷ []) $ use3 𝓛 (raw (Next.pre (to_next a δ d))) (goes a δ d) $
+        at_once ! $ show ! (λ (c : ℕ). ex 𝓤 (λ (ε : GName). sep 𝓤 (Next.pre (to_next c ε d)) (Kept c ε))) a $ show ! (λ (ε : GName). sep 𝓤 (Next.pre (to_next a ε d)) (Kept a ε)) δ $ frame ! $ move ! (1 ∷ 0 ∷ []) $ done !))
 
     pub back : (a : ℕ) (δ : GName) (d : Walker)
         → ent 𝓤 (sep 𝓤 (sep 𝓤 (A.lft (a ∷ κ) (PosShare.left q)) (sep 𝓤 (A.lft κ (PosShare.right q)) (sem 𝓛 ftrue))) (sep 𝓤 (Kept a δ) (A.res δ (R.coded.code d)))) (H.⇛ (sep 𝓤 (sem 𝓛 (Cell d)) (sep 𝓤 (sem 𝓛 (Own d)) (A.lft κ q))))

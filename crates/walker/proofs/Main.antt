@@ -82,7 +82,7 @@ pub row_in_numbers : (bs : List ℕ) (k : ℕ) → Bytes bs
     × ((Legal bs → ⊥) → row_answer (step_after bs 8 k) ≡ number_of (answer bs))
 unfolding row_answer
 row_in_numbers bs k b = (
-  ((λ e. there-at e (judged bs b)), λ w. ap row_answer (behind_row bs w.0 k w.1.0 w.1.1)),
+  ((λ e. there_at e (judged bs b)), λ w. ap row_answer (behind_row bs w.0 k w.1.0 w.1.1)),
   ((λ e. past e (judged bs b)), λ w. ap row_answer (behind_all bs w.0 k w.1)),
   λ h. let u = illegal bs b h in ap row_answer (behind_refused bs u.0 k u.1) ∙ sym (first (refused_told (own_answer bs u.0 u.1))),
 )
@@ -106,9 +106,9 @@ row_in_numbers bs k b = (
         let r = fault_number true bs f e in
         (omega (arith, r), omega (arith, r))
 
-    there-at : row_answer (step_after bs 8 k) ≡ 0 → Judged bs → (l : Legal bs) × ((x : Placed) × IsRow bs l k x)
-    there-at e (inl l) = (l, (of l (leb (length l.parts) k) refl).0 e)
-    there-at e (inr w) = absurd (let r = low w.0 w.1 in omega (arith, r))
+    there_at : row_answer (step_after bs 8 k) ≡ 0 → Judged bs → (l : Legal bs) × ((x : Placed) × IsRow bs l k x)
+    there_at e (inl l) = (l, (of l (leb (length l.parts) k) refl).0 e)
+    there_at e (inr w) = absurd (let r = low w.0 w.1 in omega (arith, r))
 
     past : row_answer (step_after bs 8 k) ≡ 22 → Judged bs → (l : Legal bs) × (length l.parts ≤ k)
     past e (inl l) = (l, (of l (leb (length l.parts) k) refl).1 e)

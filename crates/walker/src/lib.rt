@@ -1,4 +1,6 @@
 // Public: the reader that keeps hold of a token's bytes and its place in them. Any bytes may be walked.
+#![tactic(auto)]
+
 ghost use Rattle.std.specs.Prelude.{◌≡◌};
 ghost use Rattle.format.specs.Views.{step_at, place_after};
 ghost use Rattle.walker.specs.Walking.{step_after};

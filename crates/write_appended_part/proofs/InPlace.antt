@@ -78,7 +78,7 @@ back d o i j b s =
     let k₁ = s.least in
     let k₂ = s.head in
     let la : length A ≡ L = length-take-le L d s.there in
-    let bA = bytes_take L d b in
+    let b_a = bytes_take L d b in
     let lf = length-take-le o A (omega arith) in
     let lr = length-drop o A in
     let whole : A ++ drop L d ≡ d = take-append-drop L d in
@@ -90,12 +90,12 @@ back d o i j b s =
     (λ e.
     let z : stated A ≡ stated (drop o d) = ap (λ (p : ℕ). stated (drop p A)) (sym e) ∙ section in
     ap (λ (p : ℕ). restate p (stated (drop o d)) (restate 0 L (restate p j (restate 0 i A)))) e
-    ∙ back_header A L (stated (drop o d)) i j bA (omega arith) header z)
+    ∙ back_header A L (stated (drop o d)) i j b_a (omega arith) header z)
     (λ h.
     let parts : take o A ++ drop o A ≡ A = take-append-drop o A in
     let first : stated (take o A) ≡ L = sym (stated_front (take o A) (drop o A) (omega arith)) ∙ ap stated parts ∙ header in
     ap (λ (y : List ℕ). restate o (stated (drop o d)) (restate 0 L (restate o j (restate 0 i y)))) (sym parts)
-    ∙ back_section (take o A) (drop o A) o L (stated (drop o d)) i j (bytes_take o A bA) (bytes_drop o A bA) (omega arith) (omega arith) lf first section
+    ∙ back_section (take o A) (drop o A) o L (stated (drop o d)) i j (bytes_take o A b_a) (bytes_drop o A b_a) (omega arith) (omega arith) lf first section
     ∙ parts)
     s.apart
 

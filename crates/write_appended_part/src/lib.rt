@@ -1,5 +1,7 @@
 // Internal: the draft with a part after it. The part is put in its place, and taken out again where the longer draft is
 // refused, so that a refusal changes nothing.
+#![tactic(auto)]
+
 ghost use Rattle.std.specs.Prelude.{◌≡◌, ◌+◌, ◌<◌, ◌≤◌, length};
 ghost use Rattle.std.proofs.lemmas.List.Edits.{sets};
 ghost use Rattle.format.specs.Bytes.{bytes_at};

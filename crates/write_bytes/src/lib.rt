@@ -1,5 +1,7 @@
 // Internal: bytes stored one after another in a lent buffer. Each call asks for room, and gives the place after what it
 // stored.
+#![tactic(auto)]
+
 ghost use Rattle.std.specs.Prelude.{◌≡◌, ◌∷◌, [], ◌+◌, ◌≤◌, ◌<◌, length};
 ghost use Rattle.std.proofs.lemmas.List.Edits.{sets};
 ghost use Rattle.format.specs.Bytes.{bytes_at, big_endian};

@@ -1,4 +1,6 @@
 // Internal: the place after a draft of a section that may stand only once, so that it can be judged before it is written.
+#![tactic(auto)]
+
 ghost use Rattle.std.specs.Prelude.{◌≡◌, ℕ, ◌+◌, ◌≤◌, length, drop};
 ghost use Rattle.format.specs.Rules.{longest};
 ghost use Rattle.format.specs.Reading.{as_answer};

@@ -12,7 +12,7 @@ use Rattle.format.specs.declared.Answer.TheVariants.{Accepted, Refused}
 use Rattle.format.proofs.Writing.{told_found}
 use Rattle.read_sections.specs.Refusals.{first_refusal}
 use Rattle.read_sections.proofs.Laws.{all_hold}
-use Rattle.read_token.proofs.Headers.{lengths, header-stops}
+use Rattle.read_token.proofs.Headers.{lengths, header_stops}
 use Rattle.write_last_part.specs.Tiling.{Reads, LastOf, LastSection}
 use Rattle.write_last_part.specs.declared.Last.{Last}
 use Rattle.write_last_part.specs.declared.Last.TheVariants.{At, Empty, Broken}
@@ -21,7 +21,7 @@ use Rattle.write_last_part.proofs.LaidSections.{reads_tiled}
 -- A header with a number: the draft does not read.
 pub header_unread : {h : ℕ} (d : List ℕ) → h ≡ first_refusal (header_checks false d) → (h ≡ 0 → ⊥) → Reads d → ⊥
 header_unread d e n r =
-    let z : ◌≡◌ {A = ℕ} 0 1 = clash (header-stops false d e n ∙ told_found row_count r.1) in
+    let z : ◌≡◌ {A = ℕ} 0 1 = clash (header_stops false d e n ∙ told_found row_count r.1) in
     omega arith
   where
     clash : {a b c : ℕ} → Refused a b ≡ Accepted c → ◌≡◌ {A = ℕ} 0 1

@@ -1,4 +1,6 @@
 // Internal: the parts of a draft, passed by the lengths that they state, which costs little against a reading.
+#![tactic(auto)]
+
 ghost use Rattle.std.specs.Prelude.{false, ◌≤◌, length};
 ghost use Rattle.format.specs.Rules.{longest};
 ghost use Rattle.write_last_part.specs.Tiling.{Twenties, LastOf, LastSection};
@@ -9,6 +11,7 @@ use read_token::header::header;
 // What stepping from part to part finds: where the last part begins, that there is none, or that the parts do not end
 // where the bytes do.
 #[derive(Drop)]
+#[derive(Clone, Copy)]
 pub enum Last {
     At(usize),
     Empty,

@@ -18,7 +18,7 @@ use Rattle.format.proofs.Grouping.{all_join, all_split}
 use Rattle.format.proofs.Changes.{restate}
 use Rattle.format.proofs.Numbers.{bytes_take, bytes_drop}
 use Rattle.format.proofs.Turns.{sections_from, sections_from_is, sections_none, sections_more}
-use Rattle.format.proofs.Numbering.{Early, Comes, Inside, section-comes, stated_front}
+use Rattle.format.proofs.Numbering.{Early, Comes, Inside, section_comes, stated_front}
 use Rattle.format.proofs.Offsets.{Inner}
 use Rattle.format.proofs.Sound.{section_read}
 use Rattle.format.proofs.Complete.{section_found}
@@ -56,7 +56,7 @@ section_early x before at r f four e =
     let z : List ℕ = replicate at 0 ++ r in
     let there : r ≡ drop at z = sym (drop_at (replicate at 0) r at (length-replicate {A = ℕ} at 0)) in
     let c : Early false z (at + stated r) f =
-    subst (Comes (Early false z (at + stated r)) (Inside r)) e (section-comes z (at + stated r) false x before at r there (omega arith) (λ h. omega arith) (λ h. omega arith)) in
+    subst (Comes (Early false z (at + stated r)) (Inside r)) e (section_comes z (at + stated r) false x before at r there (omega arith) (λ h. omega arith) (λ h. omega arith)) in
     c.early (c.listed.complete refl)
 
 -- ---- all sections

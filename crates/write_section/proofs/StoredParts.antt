@@ -41,14 +41,14 @@ module _ {old new : List ℕ} {n : ℕ} (k : Kind) (fs : Fields) (d : List ℕ) 
       (w, q ∙ l ∙ sym (ap length w))
 
   -- a section
-  pub section-stored : {r : Answer} {e : List ℕ} → is_subsection k ≡ false → fits [] (layout k) fs ≡ true
+  pub section_stored : {r : Answer} {e : List ℕ} → is_subsection k ≡ false → fits [] (layout k) fs ≡ true
       → Stored old 0 (write t (layout k) fs) new n → n ≤ length old → t ≡ n → Added r e d (section_added d (take n new))
       → (r ≡ write_answer (addition k fs d)) × (e ≡ draft_after (addition k fs d) d)
-  section-stored b f s h q a = let c = cut s h q in section_made k fs d (take n new) t b f c.0 c.1 a
+  section_stored b f s h q a = let c = cut s h q in section_made k fs d (take n new) t b f c.0 c.1 a
 
   -- a subsection
-  pub subsection-stored : {r : Answer} {e : List ℕ} → is_subsection k ≡ true → fits [] (layout k) fs ≡ true
+  pub subsection_stored : {r : Answer} {e : List ℕ} → is_subsection k ≡ true → fits [] (layout k) fs ≡ true
       → Stored old 0 (write t (layout k) fs) new n → n ≤ length old → t ≡ n
       → Added r e d (subsection_added (section_id k) d (take n new))
       → (r ≡ write_answer (addition k fs d)) × (e ≡ draft_after (addition k fs d) d)
-  subsection-stored b f s h q a = let c = cut s h q in subsection_made k fs d (take n new) t b f c.0 c.1 a
+  subsection_stored b f s h q a = let c = cut s h q in subsection_made k fs d (take n new) t b f c.0 c.1 a

@@ -1,4 +1,6 @@
 // Internal: the addition of a section to a draft, as bytes. What is added is lent as it is to stand in the draft.
+#![tactic(auto)]
+
 pub mod heads; // heads.rt: how a part's bytes begin
 
 ghost use Rattle.std.specs.Prelude.{◌≡◌, false, take, drop};

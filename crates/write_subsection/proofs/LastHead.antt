@@ -264,10 +264,10 @@ last_left d w o i f b c h most la id hs fx e late =
     sym (sections_from_is (suc (stated g)) false (external (id_of g)) [] 8 (drop 8 (take (stated g) g)) (omega arith)
     ∙ ap₂ (λ (j : ℕ) (y : List ℕ). sections_from false (external j) [] 8 y) idg body)
     ∙ q.1 in
-    let bD = bytes_take (stated d) d b in
+    let b_d = bytes_take (stated d) d b in
     let by = all_join (λ (y : ℕ). y < 256) (passed t) Y
-    (subst Bytes before (bytes_drop 8 (take o D) (bytes_take o D bD)))
-    (all_join (λ (y : ℕ). y < 256) (restate 0 m z) w (restate_bytes 0 m z (bytes_drop o D bD)) c) in
+    (subst Bytes before (bytes_drop 8 (take o D) (bytes_take o D b_d)))
+    (all_join (λ (y : ℕ). y < 256) (restate 0 m z) w (restate_bytes 0 m z (bytes_drop o D b_d)) c) in
     let r = sections_front x Y t [] 8 by (omega arith) (subst (Late (8 + length (passed t))) (sym from) (omega arith)) in
     let hold = holder x r.0 i m z w hs (v.id ∙ id) (omega arith) states in
     let rest = rest_left x (holder_kind i) r.0 (8 + length (passed t)) m (fixed_fields i) z w f (omega arith) four states (omega arith) (omega arith) hold.0 hold.1 hold.2
@@ -293,9 +293,9 @@ module _ (d w : List ℕ) (o first : ℕ) (b : Bytes d) (c : Bytes w) (l : LastO
       ap₂ (λ (n : ℕ) (y : List ℕ). take n y) en (s ∙ ap (λ (y : Outcome (List ℕ)). draft_after y d) t.is)
 
   -- Its last section is there to be read.
-  pub last-asked : {number at n : ℕ} {new : List ℕ} → Refused number at ≡ write_answer (appended d o w) → n ≡ stated d → new ≡ draft_after (appended d o w) d
+  pub last_asked : {number at n : ℕ} {new : List ℕ} → Refused number at ≡ write_answer (appended d o w) → n ≡ stated d → new ≡ draft_after (appended d o w) d
       → (8 ≤ o) × (o ≤ length (take n new)) × (length (take n new) ≤ longest)
-  last-asked a en s =
+  last_asked a en s =
       let k = lengths false d l.header in
       let ld = length-take-le (stated d) d k.within in
       let le = ap length (same_bytes a en s) in

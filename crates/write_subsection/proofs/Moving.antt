@@ -9,7 +9,7 @@ use lib.Dec.{leb}
 use lib.ListN.{length, take, drop, replicate, length-drop}
 use lib.Seq.{take_all, drop-drop}
 use Rattle.format.specs.Bytes.{number, bytes_at}
-use Rattle.format.specs.Parts.{Kind, tokenParameters, same_kind, Part, size}
+use Rattle.format.specs.Parts.{Kind, token_parameters, same_kind, Part, size}
 use Rattle.format.specs.Rules.{Section, has, mask_covers, has_required}
 use Rattle.format.specs.Reading.{fault, Outcome, refused, found, need, and_then, Test, tested, stated, made_length, part_in}
 use Rattle.write_subsection.specs.LastSection.{moved}
@@ -79,9 +79,9 @@ rest_moved j full x k at r =
     then_moved j (subsections (suc (stated r)) x k [] (at + n) (stated r - n) (drop n r)) _ _
     (ap (λ (q : ℕ). subsections (suc (stated r)) x k [] q (stated r - n) (drop n r)) e ∙ subsections_moved (suc (stated r)) j x k [] (at + n) (stated r - n) (drop n r))
     (λ us.
-    let p : place_of tokenParameters (at + j + n) us ≡ place_of tokenParameters (at + n) us + j =
-    ap (λ (q : ℕ). place_of tokenParameters q us) e ∙ place_moved tokenParameters (at + n) j us in
-    need_moved j (mask_covers us) 18 (place_of tokenParameters (at + n) us) (place_of tokenParameters (at + n) us + mask_offset) _ p (omega arith)
+    let p : place_of token_parameters (at + j + n) us ≡ place_of token_parameters (at + n) us + j =
+    ap (λ (q : ℕ). place_of token_parameters q us) e ∙ place_moved token_parameters (at + n) j us in
+    need_moved j (mask_covers us) 18 (place_of token_parameters (at + n) us) (place_of token_parameters (at + n) us + mask_offset) _ p (omega arith)
     (need_moved j (not full || has_required (record { head = part_in k r; subs = us })) 20 at at (found (record { head = part_in k r; subs = us })) refl refl refl))
 
 -- ---- its answer

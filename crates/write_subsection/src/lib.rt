@@ -1,5 +1,7 @@
 // Internal: the addition of a subsection to the last section of a draft, as bytes. What is added is lent as it is to stand in
 // the draft.
+#![tactic(auto)]
+
 ghost use Rattle.std.specs.Prelude.{◌≡◌, true, false, [], ◌+◌, ◌-◌, ◌≤◌, length, take, drop};
 ghost use Rattle.format.specs.Bytes.{Bytes};
 ghost use Rattle.format.specs.Parts.{external};

@@ -40,14 +40,14 @@ module _ {n : ℕ} (d : List ℕ) (r : Reads d) (l : n ≡ stated d) where
   unfolding finish and_then
   goes = ap (λ o. as_answer (λ ss. stated d) (and_then o (λ ss. reading true (take (stated d) d)))) r.1
 
-  as-token : {a : Answer} → a ≡ answer (take n d) → a ≡ as_answer row_count (reading true (take (stated d) d))
+  as_token : {a : Answer} → a ≡ answer (take n d) → a ≡ as_answer row_count (reading true (take (stated d) d))
   unfolding answer
-  as-token e = e ∙ ap (λ (m : ℕ). as_answer row_count (reading true (take m d))) l
+  as_token e = e ∙ ap (λ (m : ℕ). as_answer row_count (reading true (take m d))) l
 
   -- That fault.
-  pub finish-refused : {m p : ℕ} → Refused m p ≡ answer (take n d) → Refused m p ≡ finish d
-  finish-refused e = told_refused row_count (λ ss. stated d) (reading true (take (stated d) d)) (as-token e) ∙ sym goes
+  pub finish_refused : {m p : ℕ} → Refused m p ≡ answer (take n d) → Refused m p ≡ finish d
+  finish_refused e = told_refused row_count (λ ss. stated d) (reading true (take (stated d) d)) (as_token e) ∙ sym goes
 
   -- The draft's length.
-  pub finish-done : {k : ℕ} → Accepted k ≡ answer (take n d) → Accepted n ≡ finish d
-  finish-done e = ap Accepted l ∙ told_found row_count (stated d) (reading true (take (stated d) d)) (as-token e) ∙ sym goes
+  pub finish_done : {k : ℕ} → Accepted k ≡ answer (take n d) → Accepted n ≡ finish d
+  finish_done e = ap Accepted l ∙ told_found row_count (stated d) (reading true (take (stated d) d)) (as_token e) ∙ sym goes

@@ -1,4 +1,6 @@
 // Public: the start and the finish of a lent draft. The additions stand in the crates add_.. The calls ask nothing.
+#![tactic(auto)]
+
 ghost use Rattle.std.specs.Prelude.{◌≡◌};
 ghost use Rattle.format.specs.Writer.{write_answer, draft_after, start as started};
 

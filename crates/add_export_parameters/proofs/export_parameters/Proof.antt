@@ -9,12 +9,12 @@ use lib.ListN.{length}
 use lib.Seq.{length-take-le}
 use borrow.Author.Rules.{rules}
 use borrow.Author.Tests.{ltb-true, ltb-false}
-use Rattle.format.specs.Parts.{exportParameters}
+use Rattle.format.specs.Parts.{export_parameters}
 use Rattle.format.specs.Writer.{export_fields}
 use Rattle.write_bytes.proofs.Stores.{stored_then}
 use Rattle.write_section.proofs.Additions.{unfit_added}
 use Rattle.write_section.proofs.Fields.{count_unfit, counted_fits, later_unfit}
-use Rattle.write_section.proofs.StoredParts.{one_stored, stored_last, subsection-stored}
+use Rattle.write_section.proofs.StoredParts.{one_stored, stored_last, subsection_stored}
 use Rattle.add_export_parameters.proofs.export_parameters.Statement.{statement}
 use Rattle.add_export_parameters.proofs.export_parameters.Tie as tie
 
@@ -39,7 +39,7 @@ returns c =
     let a = c.before.before.before.before.before.before.args in
     let x = a.variant.now in
     let y = a.vector.now in
-    unfit_added exportParameters (export_fields a.minimum a.maximum x y) a.draft.now
+    unfit_added export_parameters (export_fields a.minimum a.maximum x y) a.draft.now
     (⊎_elim
     (λ w. count_unfit (length x) 255 _ w.taken)
     (λ w. later_unfit (ltb (length x) 256)
@@ -146,7 +146,7 @@ returns-2 c =
     let l = lengths i in
     let e = small i.before.before.before.before.before in
     let t : 12 + length x + length y ≡ w.put2.result = omega arith in
-    subsection-stored exportParameters (export_fields a.minimum a.maximum x y) a.draft.now (12 + length x + length y) refl
+    subsection_stored export_parameters (export_fields a.minimum a.maximum x y) a.draft.now (12 + length x + length y) refl
     (counted_fits (length x) 255 l.0 (counted_fits (length y) 255 l.1 refl))
     (stored_then h.subsection-head.ensures
     (stored_then z.put_two.ensures

@@ -6,7 +6,7 @@ use borrow.Author.Rules.{rules}
 use Rattle.format.specs.Parts.{information}
 use Rattle.format.specs.Writer.{information_fields}
 use Rattle.write_bytes.proofs.Stores.{stored_then}
-use Rattle.write_section.proofs.StoredParts.{stored_last, section-stored}
+use Rattle.write_section.proofs.StoredParts.{stored_last, section_stored}
 use Rattle.add_fixed_sections.proofs.information.Statement.{statement}
 use Rattle.add_fixed_sections.proofs.information.Tie as tie
 
@@ -51,7 +51,7 @@ returns c =
     let a = h.before.before.before.args in
     let e : 10 ≡ f.put_four.result =
     omega (arith, h.section_head_is.ensures.place, z.put_two.ensures.place, f.put_four.ensures.place) in
-    section-stored information (information_fields a.flags) a.draft.now 10 refl refl
+    section_stored information (information_fields a.flags) a.draft.now 10 refl refl
     (stored_then h.section_head_is.ensures (stored_then z.put_two.ensures (stored_last f.put_four.ensures)))
     (omega arith) e s.add-section.ensures
 

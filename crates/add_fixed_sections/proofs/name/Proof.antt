@@ -10,7 +10,7 @@ use Rattle.format.specs.Parts.{name}
 use Rattle.write_bytes.proofs.Stores.{stored_then}
 use Rattle.write_section.proofs.Additions.{unfit_added}
 use Rattle.write_section.proofs.Fields.{fixed_fits, fixed_unfit}
-use Rattle.write_section.proofs.StoredParts.{stored_last, section-stored}
+use Rattle.write_section.proofs.StoredParts.{stored_last, section_stored}
 use Rattle.add_fixed_sections.proofs.name.Statement.{statement}
 use Rattle.add_fixed_sections.proofs.name.Tie as tie
 
@@ -59,7 +59,7 @@ returns-2 c =
     let h = p.before.before.before in
     let a = h.before.before.before.before.before.args in
     let e : 68 ≡ p.put.result = omega (arith, h.section_head_is.ensures.place, p.put.ensures.place) in
-    section-stored name (a.name.now ∷ []) a.draft.now 68 refl (fixed_fits (length a.name.now) 64 (omega arith) refl)
+    section_stored name (a.name.now ∷ []) a.draft.now 68 refl (fixed_fits (length a.name.now) 64 (omega arith) refl)
     (stored_then h.section_head_is.ensures (stored_last p.put.ensures))
     (omega arith) e s.add-section.ensures
 

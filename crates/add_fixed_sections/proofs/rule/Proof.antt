@@ -10,7 +10,7 @@ use Rattle.format.specs.Writer.{rule_fields}
 use Rattle.write_bytes.proofs.Stores.{stored_then}
 use Rattle.write_section.proofs.Additions.{unfit_added}
 use Rattle.write_section.proofs.Fields.{fixed_fits, fixed_unfit}
-use Rattle.write_section.proofs.StoredParts.{one_stored, stored_last, section-stored}
+use Rattle.write_section.proofs.StoredParts.{one_stored, stored_last, section_stored}
 use Rattle.add_fixed_sections.proofs.rule.Statement.{statement}
 use Rattle.add_fixed_sections.proofs.rule.Tie as tie
 
@@ -106,7 +106,7 @@ returns-2 c =
       b₃.put-one3.ensures.place,
       b₄.put-one4.ensures.place,
     ) in
-    section-stored rule
+    section_stored rule
     (rule_fields a.rule-id.now a.flags a.generated-length a.key-check a.symmetric-format a.asymmetric-format)
     a.draft.now 20 refl (fixed_fits (length a.rule-id.now) 8 (omega arith) refl)
     (stored_then h.section_head_is.ensures

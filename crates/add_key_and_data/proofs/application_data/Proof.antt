@@ -6,7 +6,7 @@ use native.Mathlib.Omega.{arith}
 use lib.ListN.{length}
 use Rattle.format.specs.Bytes.{Bytes}
 use Rattle.format.specs.Layout.{write}
-use Rattle.format.specs.Parts.{applicationData, layout}
+use Rattle.format.specs.Parts.{application_data, layout}
 use Rattle.format.proofs.Changes.{restate}
 use Rattle.reading.proofs.Filled.{bytes_of}
 use Rattle.write_bytes.proofs.Stores.{stored_then}
@@ -22,7 +22,7 @@ use Rattle.add_key_and_data.proofs.application_data.Tie as tie
 
 -- data that its count can state
 ready : (d x : List ℕ) → length x ≤ 65535 → Bytes d
-    → Ready applicationData (x ∷ []) d (write (6 + length x) (layout applicationData) (x ∷ [])) (6 + length x)
+    → Ready application_data (x ∷ []) d (write (6 + length x) (layout application_data) (x ∷ [])) (6 + length x)
 ready d x h b =
     let l : length (x ++ []) ≡ length x = ap length (append-nil x) in
     record {
@@ -42,7 +42,7 @@ same_length c = search rules
 returns : tie.Need-returns
 returns c =
     let a = c.before.before.before.before.before.args in
-    unfit_added applicationData (a.«data».now ∷ []) a.draft.now (count_unfit (length a.«data».now) 65535 _ (omega arith))
+    unfit_added application_data (a.«data».now ∷ []) a.draft.now (count_unfit (length a.«data».now) 65535 _ (omega arith))
     c.not-fitting.ensures
 
 add-n : tie.Need-overflow-add-n

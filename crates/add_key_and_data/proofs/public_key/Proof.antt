@@ -8,7 +8,7 @@ use lib.Dec.{ltb}
 use lib.ListN.{length, length-append}
 use Rattle.format.specs.Bytes.{Bytes, big_endian, number, bytes_at}
 use Rattle.format.specs.Layout.{fits, write}
-use Rattle.format.specs.Parts.{publicKey, layout}
+use Rattle.format.specs.Parts.{public_key, layout}
 use Rattle.format.specs.Rules.{checks}
 use Rattle.format.specs.Reading.{Test, located, part_slots}
 use Rattle.format.proofs.Tests.{located_kept}
@@ -29,7 +29,7 @@ use Rattle.add_key_and_data.proofs.public_key.Tie as tie
 
 -- an exponent and a modulus that their counts can state
 key_fits : (bits : ℕ) (x y : List ℕ) (flags : ℕ) → length x ≤ 65535 → length y ≤ 65535
-    → fits [] (layout publicKey) (public_key_fields bits x y flags) ≡ true
+    → fits [] (layout public_key) (public_key_fields bits x y flags) ≡ true
 key_fits bits x y flags h k =
     count_fits (length x) 65535 h
     (count_fits (length y) 65535 k (fixed_fits (length x) (length x) refl (fixed_fits (length y) (length y) refl refl)))
@@ -37,15 +37,15 @@ key_fits bits x y flags h k =
 -- the length of the section
 key-length : (bits : ℕ) (x y : List ℕ) (flags : ℕ)
     → 16 + length x + length y
-    ≡ length (write (16 + length x + length y) (layout publicKey) (public_key_fields bits x y flags))
+    ≡ length (write (16 + length x + length y) (layout public_key) (public_key_fields bits x y flags))
 key-length bits x y flags =
     let l = length-append x (y ++ (big_endian 4 flags ++ [])) in
     let m = length-append y (big_endian 4 flags ++ []) in
     omega arith
 
 ready : (d : List ℕ) (bits : ℕ) (x y : List ℕ) (flags : ℕ) → length x ≤ 65535 → length y ≤ 65535 → Bytes d
-    → Ready publicKey (public_key_fields bits x y flags) d
-    (write (16 + length x + length y) (layout publicKey) (public_key_fields bits x y flags)) (16 + length x + length y)
+    → Ready public_key (public_key_fields bits x y flags) d
+    (write (16 + length x + length y) (layout public_key) (public_key_fields bits x y flags)) (16 + length x + length y)
 ready d bits x y flags h k b = record {
   single = record { section = refl; bare = refl; once = refl };
   fit = key_fits bits x y flags h k;
@@ -56,7 +56,7 @@ ready d bits x y flags h k b = record {
 
 -- what its counts state, in the bytes of the section
 key-states : (bits : ℕ) (x y : List ℕ) (flags : ℕ) → length x ≤ 65535 → length y ≤ 65535
-    → let w = write (16 + length x + length y) (layout publicKey) (public_key_fields bits x y flags) in
+    → let w = write (16 + length x + length y) (layout public_key) (public_key_fields bits x y flags) in
     (number (bytes_at w 6 2) ≡ length x) × (number (bytes_at w 10 2) ≡ length y)
 unfolding bytes_at
 key-states bits x y flags h k = (number_big_endian 2 (length x) (omega arith), number_big_endian 2 (length y) (omega arith))
@@ -64,7 +64,7 @@ key-states bits x y flags h k = (number_big_endian 2 (length x) (omega arith), n
 -- the rules that `key_fields` tested
 abbrev Rules : ℕ → List ℕ → List ℕ → ℕ → List Test
 Rules bits x y flags =
-    located (part_slots publicKey (write (16 + length x + length y) (layout publicKey) (public_key_fields bits x y flags))) (checks false publicKey (public_key_fields bits x y flags))
+    located (part_slots public_key (write (16 + length x + length y) (layout public_key) (public_key_fields bits x y flags))) (checks false public_key (public_key_fields bits x y flags))
 
 judged : (c : tie.After-key-fields) → let a = c.before.before.before.before.before.before.before.before.before.before.before.args in c.key-fields.result ≡ first_refusal (Rules a.modulus-bits a.exponent.now a.modulus.now a.flags)
 judged c =
@@ -86,7 +86,7 @@ returns c =
     let d = a.draft.now in
     let e = a.exponent.now in
     let m = a.modulus.now in
-    unfit_added publicKey (public_key_fields a.modulus-bits e m a.flags) d (count_unfit (length e) 65535 _ (omega arith)) c.not-fitting.ensures
+    unfit_added public_key (public_key_fields a.modulus-bits e m a.flags) d (count_unfit (length e) 65535 _ (omega arith)) c.not-fitting.ensures
 
 not-fitting-requires-2 : tie.Need-not-fitting-requires-2
 not-fitting-requires-2 c κs = search rules
@@ -100,7 +100,7 @@ returns-2 c =
     let d = a.draft.now in
     let e = a.exponent.now in
     let m = a.modulus.now in
-    unfit_added publicKey (public_key_fields a.modulus-bits e m a.flags) d
+    unfit_added public_key (public_key_fields a.modulus-bits e m a.flags) d
     (later_unfit (ltb (length e) 65536) (count_unfit (length m) 65535 _ (omega arith))) c.not-fitting2.ensures
 
 add-n : tie.Need-overflow-add-n
@@ -215,7 +215,7 @@ returns-5 c =
     let r = ready d a.modulus-bits e m a.flags (omega arith) (omega arith) (bytes_of d (λ i. (c.before.before.before.before.before.before.before.before.before.before.before.before.before.before.before.before.before.before.before.slice-known.given i).fits)) in
     let k = c.before.before.before.before.before.before.put-key.ensures.place in
     let long = key-length a.modulus-bits e m a.flags in
-    put-after r (sym c.before.before.before.before.before.before.before.before.before.before.before.a2.given.1 ∙ c.before.before.before.before.before.before.before.before.before.before.before.before.before.place-for.ensures) (located_kept (part_slots publicKey (write (16 + length e + length m) (layout publicKey) (public_key_fields a.modulus-bits e m a.flags))) (checks false publicKey (public_key_fields a.modulus-bits e m a.flags)) (all_hold (Rules a.modulus-bits e m a.flags) refl (sym c.before.before.before.before.before.before.before.before.if3.false ∙ judged c.before.before.before.before.before.before.before.before.before))) (omega arith)
+    put-after r (sym c.before.before.before.before.before.before.before.before.before.before.before.a2.given.1 ∙ c.before.before.before.before.before.before.before.before.before.before.before.before.before.place-for.ensures) (located_kept (part_slots public_key (write (16 + length e + length m) (layout public_key) (public_key_fields a.modulus-bits e m a.flags))) (checks false public_key (public_key_fields a.modulus-bits e m a.flags)) (all_hold (Rules a.modulus-bits e m a.flags) refl (sym c.before.before.before.before.before.before.before.before.if3.false ∙ judged c.before.before.before.before.before.before.before.before.before))) (omega arith)
     (length_stored 0 c.before.before.before.before.before.before.put-key.result c.before.before.put_two.ensures ∙ ap (restate 0 c.before.before.before.before.before.before.put-key.result) c.before.before.before.before.before.before.put-key.ensures.bytes)
 
 pub public-key-spec : {M : Type 1} → statement M

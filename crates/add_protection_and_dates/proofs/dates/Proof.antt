@@ -13,7 +13,7 @@ use Rattle.format.specs.Writer.{date_fields}
 use Rattle.write_bytes.proofs.Stores.{stored_then}
 use Rattle.write_section.proofs.Additions.{unfit_added}
 use Rattle.write_section.proofs.Fields.{fixed_fits, fixed_unfit, later_unfit}
-use Rattle.write_section.proofs.StoredParts.{stored_last, subsection-stored}
+use Rattle.write_section.proofs.StoredParts.{stored_last, subsection_stored}
 use Rattle.add_protection_and_dates.proofs.dates.Statement.{statement}
 use Rattle.add_protection_and_dates.proofs.dates.Tie as tie
 
@@ -97,7 +97,7 @@ returns-2 c =
     let a = i.before.before.before.before.before.args in
     let l = lengths i in
     let t : 16 ≡ y.put2.result = omega arith in
-    subsection-stored dates (date_fields a.flags a.activation.now a.expiration.now) a.draft.now 16 refl
+    subsection_stored dates (date_fields a.flags a.activation.now a.expiration.now) a.draft.now 16 refl
     (fixed_fits _ 4 l.0 (fixed_fits _ 4 l.1 refl))
     (stored_then h.subsection-head.ensures
     (stored_then z.put_one.ensures

@@ -13,7 +13,7 @@ use Rattle.format.specs.Parts.{protection}
 use Rattle.write_bytes.proofs.Stores.{stored_then}
 use Rattle.write_section.proofs.Additions.{unfit_added}
 use Rattle.write_section.proofs.Fields.{fixed_fits, fixed_unfit, later_unfit}
-use Rattle.write_section.proofs.StoredParts.{stored_last, subsection-stored}
+use Rattle.write_section.proofs.StoredParts.{stored_last, subsection_stored}
 use Rattle.add_protection_and_dates.proofs.protection.Statement.{statement}
 use Rattle.add_protection_and_dates.proofs.protection.Tie as tie
 
@@ -106,7 +106,7 @@ returns-2 c =
     let a = i.before.before.before.before.before.before.before.args in
     let l = lengths i in
     let t : 62 ≡ z.put3.result = omega arith in
-    subsection-stored protection (a.mac-key.now ∷ a.mac.now ∷ a.mkvp.now ∷ []) a.draft.now 62 refl
+    subsection_stored protection (a.mac-key.now ∷ a.mac.now ∷ a.mkvp.now ∷ []) a.draft.now 62 refl
     (fixed_fits _ 32 l.0 (fixed_fits _ 8 l.1 (fixed_fits _ 16 l.2 refl)))
     (stored_then h.subsection-head.ensures
     (stored_then o.put_one.ensures

@@ -10,11 +10,11 @@ use lib.ListN.{length}
 use lib.Seq.{length-take-le}
 use borrow.Author.Rules.{rules}
 use borrow.Author.Tests.{eqb-true, eqb-false, ltb-true, ltb-false, not-true, not-false}
-use Rattle.format.specs.Parts.{tokenParameters}
+use Rattle.format.specs.Parts.{token_parameters}
 use Rattle.write_bytes.proofs.Stores.{stored_then}
 use Rattle.write_section.proofs.Additions.{unfit_added}
 use Rattle.write_section.proofs.Fields.{fixed_fits, fixed_unfit, count_unfit, counted_fits, later_unfit}
-use Rattle.write_section.proofs.StoredParts.{one_stored, stored_last, subsection-stored}
+use Rattle.write_section.proofs.StoredParts.{one_stored, stored_last, subsection_stored}
 use Rattle.add_token_parameters.proofs.token_parameters.Statement.{statement}
 use Rattle.add_token_parameters.proofs.token_parameters.Tie as tie
 
@@ -42,7 +42,7 @@ returns c =
     let x = a.mask.now in
     let y = a.template.now in
     let z = a.label-template.now in
-    unfit_added tokenParameters (x ∷ y ∷ z ∷ []) a.draft.now
+    unfit_added token_parameters (x ∷ y ∷ z ∷ []) a.draft.now
     (⊎_elim
     (λ w. count_unfit (length x) 255 _ w.taken)
     (λ v. later_unfit (ltb (length x) 256)
@@ -149,7 +149,7 @@ returns-2 c =
     let z = a.label-template.now in
     let l = lengths i in
     let t : 10 + length x + length y + length z ≡ w.put3.result = omega arith in
-    subsection-stored tokenParameters (x ∷ y ∷ z ∷ []) a.draft.now (10 + length x + length y + length z) refl
+    subsection_stored token_parameters (x ∷ y ∷ z ∷ []) a.draft.now (10 + length x + length y + length z) refl
     (counted_fits (length x) 255 l.0 (fixed_fits _ (length x) l.1 (counted_fits (length z) 255 l.2 refl)))
     (stored_then h.subsection-head.ensures
     (stored_then n.put_two.ensures

@@ -1,7 +1,7 @@
 -- `source_rule`: `referenced_rule` with the tag of its kind. Assumes nothing.
 use mathlib.Core.Path.{refl}
 use borrow.Author.Rules.{rules}
-use Rattle.format.specs.Parts.{sourceRule}
+use Rattle.format.specs.Parts.{source_rule}
 use Rattle.add_variant_and_references.specs.References.{NamesRule}
 use Rattle.add_variant_and_references.proofs.source_rule.Statement.{statement}
 use Rattle.add_variant_and_references.proofs.source_rule.Tie as tie
@@ -15,8 +15,8 @@ same_length c = search rules
 returns : tie.Need-returns
 returns c =
     let f = c.before.before.referenced-rule.ensures in
-    let y : NamesRule sourceRule 4 = record { subsection = refl; section = refl; fields = refl } in
-    (f.0 sourceRule y, f.1 sourceRule y)
+    let y : NamesRule source_rule 4 = record { subsection = refl; section = refl; fields = refl } in
+    (f.0 source_rule y, f.1 source_rule y)
 
 pub source-rule-spec : {M : Type 1} → statement M
 source-rule-spec = tie.close (tie.spec referenced-rule-requires same_length returns)

@@ -6,11 +6,11 @@ use native.Mathlib.Omega.{arith}
 use lib.ListN.{length}
 use lib.Seq.{length-take-le}
 use borrow.Author.Rules.{rules}
-use Rattle.format.specs.Parts.{transportVariant}
+use Rattle.format.specs.Parts.{transport_variant}
 use Rattle.write_bytes.proofs.Stores.{stored_then}
 use Rattle.write_section.proofs.Additions.{unfit_added}
 use Rattle.write_section.proofs.Fields.{count_unfit, counted_fits}
-use Rattle.write_section.proofs.StoredParts.{one_stored, stored_last, subsection-stored}
+use Rattle.write_section.proofs.StoredParts.{one_stored, stored_last, subsection_stored}
 use Rattle.add_variant_and_references.proofs.transport_variant.Statement.{statement}
 use Rattle.add_variant_and_references.proofs.transport_variant.Tie as tie
 
@@ -24,7 +24,7 @@ returns : tie.Need-returns
 returns c =
     let a = c.before.before.before.before.before.args in
     let x = a.variant.now in
-    unfit_added transportVariant (x ∷ []) a.draft.now (count_unfit (length x) 255 _ c.before.before.if1.true) c.not-fitting.ensures
+    unfit_added transport_variant (x ∷ []) a.draft.now (count_unfit (length x) 255 _ c.before.before.if1.true) c.not-fitting.ensures
 
 slice-aggregate-subsection-head : tie.Need-slice-aggregate-subsection-head
 slice-aggregate-subsection-head c = search rules
@@ -80,7 +80,7 @@ returns-2 c =
     let a = h.before.before.before.before.before.args in
     let x = a.variant.now in
     let t : 8 + length x ≡ v.put.result = omega arith in
-    subsection-stored transportVariant (x ∷ []) a.draft.now (8 + length x) refl
+    subsection_stored transport_variant (x ∷ []) a.draft.now (8 + length x) refl
     (counted_fits (length x) 255 (search rules) refl)
     (stored_then h.subsection-head.ensures
     (stored_then z.put_two.ensures

@@ -8,7 +8,7 @@ use mathlib.Core.Path.{sym, ◌∙◌}
 use Rattle.format.specs.Bytes.{bytes_at}
 use Rattle.read_characters.specs.Classes.{class_of, star_class}
 use Rattle.read_characters.proofs.Classes.{star_class_is}
-use Rattle.read_characters.proofs.Templates.{star_first, nothing_left, no-star-left, star-left}
+use Rattle.read_characters.proofs.Templates.{star_first, nothing_left, no_star_left, star_left}
 use Rattle.read_characters.proofs.after_star.Statement.{statement}
 use Rattle.read_characters.proofs.after_star.Tie as tie
 
@@ -33,7 +33,7 @@ returns-3 c =
     let a = c.before.before.before.before.before.before.args in
     let k = c.before.character.ensures in
     let b = get_or a.s.now a.p 0 in (
-      no-star-left a.s.now a.p a.e a.first c.before.before.before.before.if1.false (search rules)
+      no_star_left a.s.now a.p a.e a.first c.before.before.before.before.if1.false (search rules)
           (search rules) (star_class_is b ∙ ne_eqb (class_of b) star_class (λ e. c.if3.true (k ∙ e))),
       search rules,
     )
@@ -46,7 +46,7 @@ returns-4 c =
     let a = c.before.before.before.before.before.before.args in
     let k = c.before.character.ensures in
     let b = get_or a.s.now a.p 0 in (
-      star-left a.s.now a.p a.e a.first c.before.before.before.before.if1.false (search rules)
+      star_left a.s.now a.p a.e a.first c.before.before.before.before.if1.false (search rules)
           (search rules) (star_class_is b ∙ eq-eqb (class_of b) star_class (sym k ∙ c.if3.false)),
       search rules,
     )

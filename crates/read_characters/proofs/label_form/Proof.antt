@@ -5,7 +5,7 @@ use Prim.Native.Nat.{◌+◌, ◌-◌}
 use Rattle.format.specs.Bytes.{every, bytes_at}
 use Rattle.format.specs.Forms.{space}
 use Rattle.read_characters.proofs.Runs.{left_at}
-use Rattle.read_characters.proofs.Templates.{body, label-told, label_end}
+use Rattle.read_characters.proofs.Templates.{body, label_told, label_end}
 use borrow.Author.Tests.{not-true, not-false}
 use borrow.Author.Rules.{rules}
 use Rattle.read_characters.proofs.label_form.Statement.{statement}
@@ -29,7 +29,7 @@ returns c =
     let k = c.before.before.character.ensures in
     let f = c.before.may-be-first in
     let b = get_or a.args.s.now a.args.i 0 in
-    sym (label-told a.args.s.now a.args.i a.requires.0 ∙ rw (← f.ensures b k, not-true f.result c.if1.true))
+    sym (label_told a.args.s.now a.args.i a.requires.0 ∙ rw (← f.ensures b k, not-true f.result c.if1.true))
 
 add-run-end : tie.Need-overflow-add-run-end
 add-run-end c = search rules
@@ -56,7 +56,7 @@ returns-2 c =
     let bs = bytes_at s i (i + 64 - i) in
     c.only-spaces.ensures
     ∙ ap (every space) (sym (left_at s i (i + 64) (body bs) (label_end s i a.requires.0 k run.0 run.1 q.0) q.1 a.requires.0))
-    ∙ sym (label-told s i a.requires.0 ∙ rw (← f.ensures b k, not-false f.result c.before.before.before.if1.false))
+    ∙ sym (label_told s i a.requires.0 ∙ rw (← f.ensures b k, not-false f.result c.before.before.before.if1.false))
 
 pub label-form-spec : {M : Type 1} → statement M
 label-form-spec =

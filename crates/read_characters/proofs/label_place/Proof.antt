@@ -8,7 +8,7 @@ use lib.ListN.{get_or, drop}
 use Prim.Native.Nat.{ℕ, ◌+◌, ◌-◌}
 use Rattle.format.specs.Bytes.{bytes_at}
 use Rattle.format.specs.Forms.{leading, space}
-use Rattle.read_characters.proofs.Templates.{body, place-told, label_end}
+use Rattle.read_characters.proofs.Templates.{body, place_told, label_end}
 use Rattle.read_characters.proofs.label_place.Statement.{statement}
 use Rattle.read_characters.proofs.label_place.Tie as tie
 
@@ -18,7 +18,7 @@ returns c =
     let k = c.before.before.character.ensures in
     let f = c.before.may-be-first in
     let b = get_or a.args.s.now a.args.i 0 in
-    (sym (place-told a.args.s.now a.args.i a.requires ∙ rw (← f.ensures b k, not-true f.result c.if1.true)), omega arith)
+    (sym (place_told a.args.s.now a.args.i a.requires ∙ rw (← f.ensures b k, not-true f.result c.if1.true)), omega arith)
 
 returns-2 : tie.Need-returns-2
 returns-2 c =
@@ -34,7 +34,7 @@ returns-2 c =
     let n : c.before.before.after-star.result - i ≡ body bs = omega arith in (
       c.place_after.ensures.0
           ∙ ap (λ (m : ℕ). m + leading space (drop m bs)) n
-          ∙ sym (place-told s i a.requires ∙ rw (← f.ensures b k, not-false f.result c.before.before.before.before.before.before.if1.false)),
+          ∙ sym (place_told s i a.requires ∙ rw (← f.ensures b k, not-false f.result c.before.before.before.before.before.before.if1.false)),
       omega (arith, c.place_after.ensures.1),
     )
 

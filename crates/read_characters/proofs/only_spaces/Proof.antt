@@ -11,7 +11,7 @@ use mathlib.Core.Path.{◌≡◌, refl, sym, ap, ◌∙◌}
 use Rattle.format.specs.Bytes.{every, bytes_at}
 use Rattle.format.specs.Forms.{space}
 use Rattle.read_fields.proofs.Lists.{bytes_end}
-use Rattle.read_characters.proofs.Runs.{every_more, every-less}
+use Rattle.read_characters.proofs.Runs.{every_more, every_less}
 use Rattle.read_characters.proofs.only_spaces.Statement.{statement}
 use Rattle.read_characters.proofs.only_spaces.Tie as tie
 
@@ -45,7 +45,7 @@ loop-again c =
       search rules,
       ⊎_elim
           (λ w.
-          rw w.1 (sym (every-less space s l.p a.e t (omega arith) l.only (ne_eqb b 0x20 w.0.taken)) ∙ l.invariant.2))
+          rw w.1 (sym (every_less space s l.p a.e t (omega arith) l.only (ne_eqb b 0x20 w.0.taken)) ∙ l.invariant.2))
           (λ w.
           rw w.1 (sym (every_more space s l.p a.e t (omega arith) l.only (eq-eqb b 0x20 w.0.left)) ∙ l.invariant.2))
           c.if1.branch,

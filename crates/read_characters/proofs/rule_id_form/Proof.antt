@@ -9,7 +9,7 @@ use mathlib.Core.Bool.{not, ◌&&◌, and-true, and-false}
 use mathlib.Core.Path.{◌≡◌, refl, sym, ap, ◌∙◌}
 use Rattle.format.specs.Bytes.{bytes_at}
 use Rattle.read_fields.proofs.Lists.{bytes_end}
-use Rattle.read_characters.proofs.Ranks.{steady, steady-on, steady-falls, rule_id_told}
+use Rattle.read_characters.proofs.Ranks.{steady, steady_on, steady_falls, rule_id_told}
 use Rattle.read_characters.proofs.rule_id_form.Statement.{statement}
 use Rattle.read_characters.proofs.rule_id_form.Tie as tie
 
@@ -60,8 +60,8 @@ loop-again c =
       search rules,
       search rules,
       ⊎_elim
-          (λ w. rw w.1 (sym (steady-falls s l.p e k t (omega arith) (not l.falls) l.before w.0.taken) ∙ l.invariant.2))
-          (λ w. rw w.1 (sym (steady-on s l.p e k t (omega arith) (not l.falls) l.before w.0.left) ∙ l.invariant.2))
+          (λ w. rw w.1 (sym (steady_falls s l.p e k t (omega arith) (not l.falls) l.before w.0.taken) ∙ l.invariant.2))
+          (λ w. rw w.1 (sym (steady_on s l.p e k t (omega arith) (not l.falls) l.before w.0.left) ∙ l.invariant.2))
           c.if1.branch,
     )
 

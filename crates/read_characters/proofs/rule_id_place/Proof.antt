@@ -8,7 +8,7 @@ use Rattle.format.specs.Forms.{in_rule_id, rule_id_reach}
 use Rattle.read_characters.specs.Classes.{letter_class, rule_class}
 use Rattle.read_characters.proofs.Classes.{rule_class_is}
 use Rattle.read_fields.proofs.Lists.{bytes_start}
-use Rattle.read_characters.proofs.Runs.{run_passed, reach-none, reach-some}
+use Rattle.read_characters.proofs.Runs.{run_passed, reach_none, reach_some}
 use Rattle.read_characters.proofs.rule_id_place.Statement.{statement}
 use Rattle.read_characters.proofs.rule_id_place.Tie as tie
 
@@ -18,7 +18,7 @@ returns c =
     let a = c.before.before.before.before.before.args in
     let bs = bytes_at a.s.now a.i (a.i + 8 - a.i) in
     let run = run_passed in_rule_id letter_class rule_class rule_class_is bs a.i c.before.run-end.ensures.0 in (
-      sym (ap rule_id_reach (sym (bytes_start a.s.now a.i 8)) ∙ reach-none in_rule_id bs a.i run c.if1.true),
+      sym (ap rule_id_reach (sym (bytes_start a.s.now a.i 8)) ∙ reach_none in_rule_id bs a.i run c.if1.true),
       omega arith,
     )
 
@@ -29,7 +29,7 @@ returns-2 c =
     let bs = bytes_at a.s.now a.i (a.i + 8 - a.i) in
     let run = run_passed in_rule_id letter_class rule_class rule_class_is bs a.i c.before.before.before.run-end.ensures.0 in (
       c.place_after.ensures.0
-          ∙ sym (ap rule_id_reach (sym (bytes_start a.s.now a.i 8)) ∙ reach-some in_rule_id bs a.i run c.before.before.if1.false),
+          ∙ sym (ap rule_id_reach (sym (bytes_start a.s.now a.i 8)) ∙ reach_some in_rule_id bs a.i run c.before.before.if1.false),
       omega (arith, c.place_after.ensures.1),
     )
 

@@ -9,8 +9,8 @@ use mathlib.Core.Path.{◌≡◌, refl, ◌∙◌}
 use Rattle.format.specs.Forms.{leading}
 use Rattle.format.specs.Bytes.{bytes_at}
 use Rattle.read_characters.specs.Classes.{of_class}
-use Rattle.read_characters.proofs.Runs.{run_more, run-stop, run-done}
-use Rattle.read_characters.proofs.Classes.{class-in, class-below, class-above}
+use Rattle.read_characters.proofs.Runs.{run_more, run_stop, run_done}
+use Rattle.read_characters.proofs.Classes.{class_in, class_below, class_above}
 use Rattle.read_characters.proofs.run_end.Statement.{statement}
 use Rattle.read_characters.proofs.run_end.Tie as tie
 
@@ -40,10 +40,10 @@ returns c =
     let b = get_or s l.p 0 in
     let f = of_class a.lo a.hi in
     let r : f b ≡ false =
-    ⊎_elim (λ w. class-below a.lo a.hi b c.before.character.ensures w.taken)
-    (λ w. class-above a.lo a.hi b c.before.character.ensures w.1.taken)
+    ⊎_elim (λ w. class_below a.lo a.hi b c.before.character.ensures w.taken)
+    (λ w. class_above a.lo a.hi b c.before.character.ensures w.1.taken)
     c.if1.branch in (
-      run-stop f s l.p a.e c.before.before.before.loop-test.true (omega arith) r
+      run_stop f s l.p a.e c.before.before.before.loop-test.true (omega arith) r
           ∙ l.invariant.2,
       search rules,
     )
@@ -61,7 +61,7 @@ loop-again c =
     let s = a.s.now in
     let b = get_or s l.p 0 in
     let f = of_class a.lo a.hi in
-    let r : f b ≡ true = class-in a.lo a.hi b c.before.before.character.ensures c.before.if1.false
+    let r : f b ≡ true = class_in a.lo a.hi b c.before.before.character.ensures c.before.if1.false
     c.if2.false in (
       search rules,
       search rules,
@@ -73,7 +73,7 @@ returns-2 : tie.Need-returns-2 invariant-loop decreases-loop
 returns-2 c =
     let a = c.before.before.before.args in
     let l = c.before.loop in
-    (run-done (of_class a.lo a.hi) a.s.now l.p a.e c.loop-test.false ∙ l.invariant.2, search rules)
+    (run_done (of_class a.lo a.hi) a.s.now l.p a.e c.loop-test.false ∙ l.invariant.2, search rules)
 
 pub run-end-spec : {M : Type 1} → statement M
 run-end-spec =

@@ -12,7 +12,7 @@ use Rattle.format.specs.Forms.{date_exists, in_order}
 use Rattle.format.specs.Parts.{dates}
 use Rattle.format.specs.Rules.{dates_judged}
 use Rattle.format.specs.Reading.{Test, subsection_checks}
-use Rattle.read_sections.proofs.Laws.{Left, passed, failed, none_left, fixed-head, at_most, above, is_number, other-number, at_drop, field_at_is, fixed-room, not_asked, asked}
+use Rattle.read_sections.proofs.Laws.{Left, passed, failed, none_left, fixed_head, at_most, above, is_number, other_number, at_drop, field_at_is, fixed_room, not_asked, asked}
 use Rattle.read_information.proofs.dates_at.Statement.{statement}
 use Rattle.read_information.proofs.dates_at.Tie as tie
 
@@ -27,11 +27,11 @@ Past k c = (x : Bool) → Left (Tests c x) (drop k (Tests c x))
 -- after the head its 16 bytes are there
 room : (c : tie.Else1) → c.before.before.before.args.q + 16 ≤ length c.before.before.before.args.s.now
 room c =
-    let r = fixed-room 16 _ _ _ c.before.fixed-subsection-head.ensures c.if1.false in
+    let r = fixed_room 16 _ _ _ c.before.fixed-subsection-head.ensures c.if1.false in
     omega (arith, c.before.before.before.requires)
 
 past-1 : (c : tie.Else1) → Past 5 c.before.before.before
-past-1 c x = (fixed-head 16 _ _ _ _ c.before.fixed-subsection-head.ensures).left c.if1.false
+past-1 c x = (fixed_head 16 _ _ _ _ c.before.fixed-subsection-head.ensures).left c.if1.false
 
 past-2 : (c : tie.Else2) → Past 6 c.before.before.before.before.before
 past-2 c x = passed (past-1 c.before.before x) (at_most _ _ 6 2 c.before.two.ensures.0 1 c.if2.false)
@@ -42,7 +42,7 @@ At c o w = bytes_at (drop c.args.q c.args.s.now) o w
 
 -- the dates are not judged, or they are
 kept : (c : tie.Then3) → dates_judged (At c.before.before.before.before.before.before 6 2) ≡ false
-kept c = other-number _ _ 6 2 c.before.before.two.ensures.0 1 c.if3.true
+kept c = other_number _ _ 6 2 c.before.before.two.ensures.0 1 c.if3.true
 
 judged : (c : tie.Else3) → dates_judged (At c.before.before.before.before.before.before 6 2) ≡ true
 judged c = is_number _ _ 6 2 c.before.before.two.ensures.0 1 c.if3.false
@@ -62,7 +62,7 @@ dates-at-spec =
     tie.close
     (tie.spec
     (λ c κs. search rules)
-    (λ c x. (fixed-head 16 _ _ _ _ c.before.fixed-subsection-head.ensures).stop c.if1.true)
+    (λ c x. (fixed_head 16 _ _ _ _ c.before.fixed-subsection-head.ensures).stop c.if1.true)
     (λ c. search rules)
     (λ c κs. let r = room c in omega arith)
     (λ c x. failed (past-1 c.before.before x) (above _ _ 6 2 c.before.two.ensures.0 1 c.if2.true))

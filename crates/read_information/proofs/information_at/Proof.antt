@@ -9,7 +9,7 @@ use borrow.Author.Rules.{rules}
 use Rattle.format.specs.Parts.{information}
 use Rattle.format.specs.Reading.{Test, field_checks, section_checks, as_answer, section_kind, stated}
 use Rattle.read_sections.specs.Refusals.{section_rows}
-use Rattle.read_sections.proofs.Heads.{section-stops, section-goes}
+use Rattle.read_sections.proofs.Heads.{section_stops, section_goes}
 use Rattle.read_sections.proofs.Laws.{passed, none_left, Made, made, section_head_is, head_room, number_at}
 use Rattle.read_information.proofs.information_at.Statement.{statement}
 use Rattle.read_information.proofs.information_at.Tie as tie
@@ -44,13 +44,13 @@ information-at-spec =
     (λ c before a.
     let b = c.before.before.before.before in
     c.refused.ensures
-    ∙ section-stops _ _ information before _ _ b.requires.0 (ap section_kind b.requires.2) a refl ((head c.before.before).stop c.before.if1.true) c.before.if1.true)
+    ∙ section_stops _ _ information before _ _ b.requires.0 (ap section_kind b.requires.2) a refl ((head c.before.before).stop c.before.if1.true) c.before.if1.true)
     (λ c κs. let m = room c in (omega arith, search rules))
     (λ c κs. search rules)
     (λ c before a.
     let b = c.before.before.before.before.before.before in
     c.refused2.ensures
-    ∙ section-stops _ _ information before _ _ b.requires.0 (ap section_kind b.requires.2) a refl ((fields c.before.before).stop c.before.if2.true) c.before.if2.true)
+    ∙ section_stops _ _ information before _ _ b.requires.0 (ap section_kind b.requires.2) a refl ((fields c.before.before).stop c.before.if2.true) c.before.if2.true)
     (λ c. search rules)
     (λ c κs. search rules)
     (λ c. let m = room c.before.before.before in let l = length-read c in omega arith)
@@ -61,4 +61,4 @@ information-at-spec =
     (λ c before a.
     let b = c.before.before.before.before.before.before.before in
     c.information-subs.ensures
-    ∙ sym (ap (as_answer section_rows) (section-goes _ _ information before _ _ b.requires.0 (ap section_kind b.requires.2) a refl (none_left (passed ((fields c.before.before.before).left c.before.before.if2.false) refl))))))
+    ∙ sym (ap (as_answer section_rows) (section_goes _ _ information before _ _ b.requires.0 (ap section_kind b.requires.2) a refl (none_left (passed ((fields c.before.before.before).left c.before.before.if2.false) refl))))))

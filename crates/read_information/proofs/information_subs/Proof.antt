@@ -12,9 +12,9 @@ use Rattle.format.specs.Parts.{information}
 use Rattle.read_information.specs.Loops.{InformationRead}
 use Rattle.read_sections.specs.Refusals.{sub_refusal, section_rows}
 use Rattle.read_sections.proofs.Heads.{section_rest_is}
-use Rattle.read_information.proofs.Laws.{turn_one, turn_two, ends_there, ends-missing}
+use Rattle.read_information.proofs.Laws.{turn_one, turn_two, ends_there, ends_missing}
 use Rattle.read_sections.proofs.Laws.{not_asked, asked}
-use Rattle.read_sections.proofs.Subs.{refused_told, refused_same, refused_then, loop-stops, loop-room}
+use Rattle.read_sections.proofs.Subs.{refused_told, refused_same, refused_then, loop_stops, loop_room}
 use Rattle.read_information.proofs.information_subs.Statement.{statement}
 use Rattle.read_information.proofs.information_subs.Tie as tie
 
@@ -34,7 +34,7 @@ room : (c : tie.Else1 invariant-loop decreases-loop) → let b = c.before.before
     (4 ≤ number (bytes_at b.args.s.now (q + 2) 2)) × (number (bytes_at b.args.s.now (q + 2) 2) ≤ b.args.e - q)
 room c =
     let b = c.before.before.before.before.before in
-    loop-room b.args.s.now b.args.external information c.before.before.before.loop.invariant.done c.before.before.before.loop.q b.args.e c.before.before.loop-test.true (told c.before) c.if1.false
+    loop_room b.args.s.now b.args.external information c.before.before.before.loop.invariant.done c.before.before.before.loop.q b.args.e c.before.before.loop-test.true (told c.before) c.if1.false
 
 pub information-subs-spec : {M : Type 1} → statement M
 information-subs-spec =
@@ -53,7 +53,7 @@ information-subs-spec =
     c.refused.ensures
     ∙ refused_told section_rows
     (refused_same (section_rest_is b.args.full _ information b.args.s.now _ _ b.requires.0 b.requires.3)
-    (refused_then _ (refused_same (sym w.same) (loop-stops _ _ information w.done _ _ c.before.before.before.loop-test.true (told c.before.before) c.before.if1.true)))))
+    (refused_then _ (refused_same (sym w.same) (loop_stops _ _ information w.done _ _ c.before.before.before.loop-test.true (told c.before.before) c.before.if1.true)))))
     (λ c κs. let r = room c in omega (arith, r))
     (λ c. let r = room c.before.before in omega (arith, c.before.before.before.before.before.loop.invariant.few))
     (λ c. let r = room c.before.before in omega (arith, r))
@@ -74,7 +74,7 @@ information-subs-spec =
     (λ c. search rules)
     (λ c.
     let b = c.before.before.before.before.before in
-    ends-missing b.args.full c.before.before.before.loop.invariant c.before.before.loop-test.false b.requires.0 b.requires.3 (asked (not-false b.args.full c.before.if3.false) (not-true c.before.before.before.loop.protected c.if4.true)))
+    ends_missing b.args.full c.before.before.before.loop.invariant c.before.before.loop-test.false b.requires.0 b.requires.3 (asked (not-false b.args.full c.before.if3.false) (not-true c.before.before.before.loop.protected c.if4.true)))
     (λ c.
     let b = c.before.before.before.before.before in
     ends_there b.args.full c.before.before.before.loop.invariant c.before.before.loop-test.false b.requires.0 b.requires.3 (asked (not-false b.args.full c.before.if3.false) (not-false c.before.before.before.loop.protected c.if4.false))))

@@ -9,7 +9,7 @@ use borrow.Author.Rules.{rules}
 use Rattle.format.specs.Bytes.{bytes_at, all_zero}
 use Rattle.format.specs.Parts.{protection}
 use Rattle.format.specs.Reading.{subsection_checks}
-use Rattle.read_sections.proofs.Laws.{Left, passed, failed, none_left, fixed-head, field_at_is, fixed-room, not_asked, asked}
+use Rattle.read_sections.proofs.Laws.{Left, passed, failed, none_left, fixed_head, field_at_is, fixed_room, not_asked, asked}
 use Rattle.read_information.proofs.protection_at.Statement.{statement}
 use Rattle.read_information.proofs.protection_at.Tie as tie
 
@@ -20,11 +20,11 @@ Past k c =
 
 room : (c : tie.Else1) → c.before.before.before.args.q + 62 ≤ length c.before.before.before.args.s.now
 room c =
-    let r = fixed-room 62 _ _ _ c.before.fixed-subsection-head.ensures c.if1.false in
+    let r = fixed_room 62 _ _ _ c.before.fixed-subsection-head.ensures c.if1.false in
     omega (arith, c.before.before.before.requires)
 
 past-1 : (c : tie.Else1) → Past 5 c.before.before.before
-past-1 c = (fixed-head 62 _ _ _ _ c.before.fixed-subsection-head.ensures).left c.if1.false
+past-1 c = (fixed_head 62 _ _ _ _ c.before.fixed-subsection-head.ensures).left c.if1.false
 
 -- the MKVP is not judged, or it is, and this is its test
 internal : (c : tie.Then2) → c.before.before.before.before.args.external ≡ false
@@ -44,7 +44,7 @@ protection-at-spec =
     tie.close
     (tie.spec
     (λ c κs. search rules)
-    (λ c. (fixed-head 62 _ _ _ _ c.before.fixed-subsection-head.ensures).stop c.if1.true)
+    (λ c. (fixed_head 62 _ _ _ _ c.before.fixed-subsection-head.ensures).stop c.if1.true)
     (λ c. none_left (passed (past-1 c.before) (not_asked (zeros c.before.before.before.before) (internal c))))
     (λ c. search rules)
     (λ c κs. let r = room c.before in omega arith)

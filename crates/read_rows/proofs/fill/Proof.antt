@@ -8,7 +8,7 @@ use lib.Seq.{sets}
 use Rattle.format.specs.Rules.{longest}
 use Rattle.read_rows.specs.Filling.{Filling, standing, Sections, InSection}
 use Rattle.read_rows.proofs.Places.{four, id_below}
-use Rattle.read_rows.proofs.Steps.{Next, next, start, end, section-on, bare_rule_is, bare-on}
+use Rattle.read_rows.proofs.Steps.{Next, next, start, end, section_on, bare_rule_is, bare_on}
 use Rattle.read_rows.proofs.fill.Statement.{statement}
 use Rattle.read_rows.proofs.fill.Tie as tie
 
@@ -81,7 +81,7 @@ bare-done c eu =
     let g = b.before in
     let t = g.before in
     let k = bare_rule_is _ _ b.is-bare-rule.ensures c.if1.true in
-    bare-on (turn t.before.before) refl t.two.ensures.0 g.rules-with.ensures k.0 k.1 eu
+    bare_on (turn t.before.before) refl t.two.ensures.0 g.rules-with.ensures k.0 k.1 eu
 
 loop-less : tie.Need-loop-smaller invariant-loop decreases-loop
 loop-less c = omega (arith, inside c.before.before.before.before.before.before.before.before.before)
@@ -128,7 +128,7 @@ section-done c eu =
     let r = c.before.before.before.before.before in
     let g = r.before.before.before in
     let t = g.before in
-    let f = section-on (turn t.before.before) refl t.two.ensures.0 c.own-length.ensures g.rules-with.ensures r.rule-in.ensures eu in
+    let f = section_on (turn t.before.before) refl t.two.ensures.0 c.own-length.ensures g.rules-with.ensures r.rule-in.ensures eu in
     (f.0, record { filling = f.1; kinds = refl; number = r.rule-in.ensures })
 
 add-first : tie.Need-overflow-add-first invariant-loop decreases-loop

@@ -7,7 +7,7 @@ use lib.ListN.{length}
 use lib.Seq.{sets}
 use Rattle.format.specs.Rules.{longest}
 use Rattle.read_rows.specs.Filling.{InSection, Subsections}
-use Rattle.read_rows.proofs.Steps.{sub-inside, sub-turn, subs_end}
+use Rattle.read_rows.proofs.Steps.{sub_inside, sub_turn, subs_end}
 use Rattle.read_rows.proofs.put_subsections.Statement.{statement}
 use Rattle.read_rows.proofs.put_subsections.Tie as tie
 
@@ -26,7 +26,7 @@ loop-holds c = (c.before.before.requires, (λ t₀ rules i w. w), refl)
 -- What of the subsection at q is in the token, and the numbers.
 inside : (c : tie.In-loop invariant-loop decreases-loop) → let a = c.before.before.before.before.args in let l = c.before.loop in
     (l.q + 4 ≤ length a.s.now) × (length a.s.now ≤ longest) × (l.row ≤ l.q) × (a.kind < 16777216) × (5 * l.row + 5 ≤ length l.table)
-inside c = sub-inside c.before.loop.invariant.0.within c.loop-test.true
+inside c = sub_inside c.before.loop.invariant.0.within c.loop-test.true
 
 add-two : tie.Need-overflow-add-two invariant-loop decreases-loop
 add-two c = omega (arith, inside c)
@@ -71,7 +71,7 @@ stored : {u t₀ : List ℕ} {rules i : ℕ} (c : tie.After-slice-known2 invaria
 stored c w eu =
     let g = c.before.before.before in
     let t = g.before.before in
-    sub-turn w t.before.loop-test.true t.two.ensures.0 g.two2.ensures.0 eu
+    sub_turn w t.before.loop-test.true t.two.ensures.0 g.two2.ensures.0 eu
 
 loop-less : tie.Need-loop-smaller invariant-loop decreases-loop
 loop-less c =

@@ -16,7 +16,7 @@ use Rattle.read_rule_ids.specs.Keys.{Put}
 use Rattle.read_sections.specs.Refusals.{section_rows}
 use Rattle.read_sections.proofs.Laws.{Left, passed, failed, none_left, section_head_is, made, head_room, number_at}
 use Rattle.read_rules.specs.Ids.{EightBytes, Held, RuleAnswered}
-use Rattle.read_rules.proofs.Whole.{key_some, eight_bytes, key_told, rule-stops, rule-goes, bare-there, bare-missing}
+use Rattle.read_rules.proofs.Whole.{key_some, eight_bytes, key_told, rule_stops, rule_goes, bare_there, bare_missing}
 use Rattle.read_rules.proofs.rule_at.Statement.{statement}
 use Rattle.read_rules.proofs.rule_at.Tie as tie
 
@@ -59,7 +59,7 @@ goes c x before w put a =
     let b = c.before.before.before.before.before.before.before.before.before in
     let e = eight c.before.before.before.before in
     let l = c.before.before.eight.ensures in
-    rule-goes b.args.full x before _ _ b.requires.0 b.requires.2 w put e l (room c.before.before.before.before.before.before).0
+    rule_goes b.args.full x before _ _ b.requires.0 b.requires.2 w put e l (room c.before.before.before.before.before.before).0
     (key_told _ w put e l (some c.before.before) c.if3.false) (none_left (passed (past-2 c.before.before.before.before x false false) refl)) a
 
 -- the rule ends where it states, one without subsections after its own fields
@@ -77,14 +77,14 @@ rule-at-spec =
     (λ c κs. search rules)
     (λ c x before w.
     subst (RuleAnswered _ x before _ _ _) (sym c.refused.ensures)
-    (rule-stops _ x before _ _ c.before.before.before.before.requires.0 c.before.before.before.before.requires.2 _ refl ((section_head_is 20 false _ _ c.before.before.section_head_is.ensures).stop c.before.if1.true) c.before.if1.true))
+    (rule_stops _ x before _ _ c.before.before.before.before.requires.0 c.before.before.before.before.requires.2 _ refl ((section_head_is 20 false _ _ c.before.before.section_head_is.ensures).stop c.before.if1.true) c.before.if1.true))
     (λ c κs. let r = room c in (omega (arith, r), search rules, c.before.before.before.requires.4))
     (λ c κs. search rules)
     (λ c x before w.
     let b = c.before.before.before.before.before.before in
     let r = drop b.args.p b.args.s.now in
     subst (RuleAnswered _ x before _ _ _) (sym c.refused2.ensures)
-    (rule-stops _ x before _ _ b.requires.0 b.requires.2 _ refl
+    (rule_stops _ x before _ _ b.requires.0 b.requires.2 _ refl
     ((made (field_checks x rule r) _ (past-1 c.before.before.before x false (rule_before (part_in rule r) before)) refl (c.before.before.rule-fields.ensures x)).stop c.before.if2.true) c.before.if2.true))
     (λ c. search rules)
     (λ c κs. let r = room c.before.before.before in omega (arith, r))
@@ -92,7 +92,7 @@ rule-at-spec =
     (λ c κs. search rules)
     (λ c x before w.
     subst (RuleAnswered _ x before _ _ _) (sym c.refused3.ensures)
-    (rule-stops _ x before _ _ c.before.before.before.before.before.before.before.before.before.before.requires.0 c.before.before.before.before.before.before.before.before.before.before.requires.2 _
+    (rule_stops _ x before _ _ c.before.before.before.before.before.before.before.before.before.before.requires.0 c.before.before.before.before.before.before.before.before.before.before.requires.2 _
     (key_told _ w c.before.before.put.ensures (eight c.before.before.before.before.before) c.before.before.before.eight.ensures (some c.before.before.before) c.before.if3.true)
     (failed (past-2 c.before.before.before.before.before x false true) refl) (λ z. omega arith)))
     (λ c. search rules)
@@ -104,7 +104,7 @@ rule-at-spec =
     (λ c. search rules)
     (λ c x before w.
     goes c.before.before.before.before x before w c.before.before.before.before.before.put.ensures
-    (bare-missing _ x _ _ (bare c.before.before) (sym (c.before.has-required.ensures [] refl) ∙ not-true _ c.if5.true)))
+    (bare_missing _ x _ _ (bare c.before.before) (sym (c.before.has-required.ensures [] refl) ∙ not-true _ c.if5.true)))
     (λ c x before w.
     goes c.before.before.before.before x before w c.before.before.before.before.before.put.ensures
-    (bare-there _ x _ _ (bare c.before.before) (sym (c.before.has-required.ensures [] refl) ∙ not-false _ c.if5.false))))
+    (bare_there _ x _ _ (bare c.before.before) (sym (c.before.has-required.ensures [] refl) ∙ not-false _ c.if5.false))))

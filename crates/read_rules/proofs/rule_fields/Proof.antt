@@ -15,7 +15,7 @@ use Rattle.format.specs.Rules.{generated_length_allowed}
 use Rattle.format.specs.Reading.{field_checks}
 use Rattle.read_sections.specs.Refusals.{coded}
 use Rattle.read_sections.proofs.Laws.{Left, all_left, passed, failed, none_left, number_at, at_most, above, byte_at, at_drop, field_at_is}
-use Rattle.read_rules.proofs.Laws.{generated-key, generated-any}
+use Rattle.read_rules.proofs.Laws.{generated_key, generated_any}
 use Rattle.read_rules.proofs.rule_fields.Statement.{statement}
 use Rattle.read_rules.proofs.rule_fields.Tie as tie
 
@@ -41,7 +41,7 @@ generated : (c : tie.After-key-length) → let a = c.before.before.before.before
     c.key-length.result ≡ generated_length_allowed (Field a 12 4) (Field a 16 1)
 generated c =
     let a = c.before.before.before.before.before.before.before.before in
-    generated-key (Field a 12 4) (Field a 16 1) (number_at _ _ 12 4 c.before.before.before.before.four.ensures) c.before.before.if3.true
+    generated_key (Field a 12 4) (Field a 16 1) (number_at _ _ 12 4 c.before.before.before.before.four.ensures) c.before.before.if3.true
     (c.key-length.ensures ∙ ap key_length (number_at _ _ 16 1 (byte a 16 (omega arith))))
 
 past-3 : (c : tie.Joined3) → Past 3 c.before.before.before.before.before.before
@@ -49,7 +49,7 @@ past-3 c x =
     let a = c.before.before.before.before.before.before in
     passed (past-2 c.before x)
     (⊎_elim (λ w. sym (generated (record { before = record { before = record { before = c.before; if3 = w.0 }; shared-slice-known2 = w.1 }; key-length = w.2 })) ∙ not-false _ w.3.left)
-    (λ w. generated-any (Field a 12 4) (Field a 16 1) (number_at _ _ 12 4 c.before.before.four.ensures) c.before.if2.false w.left) c.if3.branch)
+    (λ w. generated_any (Field a 12 4) (Field a 16 1) (number_at _ _ 12 4 c.before.before.four.ensures) c.before.if2.false w.left) c.if3.branch)
 
 past-4 : (c : tie.Else5) → Past 4 c.before.before.before.before.before.before.before.before
 past-4 c x = passed (past-3 c.before.before x) (at_most _ _ 17 1 (byte c.before.before.before.before.before.before.before.before 17 (omega arith)) 2 c.if5.false)

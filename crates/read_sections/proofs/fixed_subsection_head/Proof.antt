@@ -7,7 +7,7 @@ use lib.ListN.{length, drop}
 use borrow.Author.Rules.{rules}
 use Rattle.format.specs.Reading.{Test}
 use Rattle.read_sections.specs.Refusals.{sub_head_checks, fixed_head_checks}
-use Rattle.read_sections.proofs.Laws.{Left, passed, failed, none_left, all_left, Made, made, zero-yes, zero-not, equal, unequal, byte_at, room_for}
+use Rattle.read_sections.proofs.Laws.{Left, passed, failed, none_left, all_left, Made, made, zero_yes, zero_not, equal, unequal, byte_at, room_for}
 use Rattle.read_sections.proofs.fixed_subsection_head.Statement.{statement}
 use Rattle.read_sections.proofs.fixed_subsection_head.Tie as tie
 
@@ -42,5 +42,5 @@ fixed-subsection-head-spec =
     (λ c. failed ((head c.before.before.before).left c.before.before.if1.false) (unequal _ _ 2 2 c.before.two.ensures.0 _ c.if2.true))
     (λ c. search rules)
     (λ c. let r = room c.before.before.before in omega arith)
-    (λ c. failed (past-2 c.before.before) (zero-not _ _ 5 1 (byte_at _ _ 6 5 (room c.before.before.before.before) (omega arith)) c.if3.true))
-    (λ c. none_left (passed (past-2 c.before.before) (zero-yes _ _ 5 1 (byte_at _ _ 6 5 (room c.before.before.before.before) (omega arith)) c.if3.false))))
+    (λ c. failed (past-2 c.before.before) (zero_not _ _ 5 1 (byte_at _ _ 6 5 (room c.before.before.before.before) (omega arith)) c.if3.true))
+    (λ c. none_left (passed (past-2 c.before.before) (zero_yes _ _ 5 1 (byte_at _ _ 6 5 (room c.before.before.before.before) (omega arith)) c.if3.false))))

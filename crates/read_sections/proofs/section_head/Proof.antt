@@ -8,7 +8,7 @@ use lib.ListN.{length, drop, length-drop}
 use borrow.Author.Rules.{rules}
 use Rattle.format.specs.Reading.{Test}
 use Rattle.read_sections.specs.Refusals.{head_checks}
-use Rattle.read_sections.proofs.Laws.{Left, all_left, passed, failed, none_left, zero-yes, zero-not, at_least, below, at_most, above, byte_at, both_yes, first_not, second_not}
+use Rattle.read_sections.proofs.Laws.{Left, all_left, passed, failed, none_left, zero_yes, zero_not, at_least, below, at_most, above, byte_at, both_yes, first_not, second_not}
 use Rattle.read_sections.proofs.section_head.Statement.{statement}
 use Rattle.read_sections.proofs.section_head.Tie as tie
 
@@ -21,7 +21,7 @@ Past k c = Left (Tests c) (drop k (Tests c))
 
 past-1 : (c : tie.Else1) → Past 1 c.before.before.before
 unfolding head_checks
-past-1 c = passed (all_left _) (zero-yes _ _ 1 1 (byte_at _ _ 4 1 c.before.before.before.requires.0 (omega arith)) c.if1.false)
+past-1 c = passed (all_left _) (zero_yes _ _ 1 1 (byte_at _ _ 4 1 c.before.before.before.requires.0 (omega arith)) c.if1.false)
 
 past-2 : (c : tie.Else3) → Past 2 c.before.before.before.before.before.before
 unfolding head_checks
@@ -38,7 +38,7 @@ section-head-spec =
     (tie.spec
     (λ c. search rules)
     (λ c. search rules)
-    (λ c. failed (all_left (Tests c.before.before.before)) (zero-not _ _ 1 1 (byte_at _ _ 4 1 c.before.before.before.requires.0 (omega arith)) c.if1.true))
+    (λ c. failed (all_left (Tests c.before.before.before)) (zero_not _ _ 1 1 (byte_at _ _ 4 1 c.before.before.before.requires.0 (omega arith)) c.if1.true))
     (λ c. search rules)
     (λ c κs. search rules)
     (λ c. failed (past-1 c.before.before) (first_not _ (below _ _ 2 2 c.before.two.ensures.0 _ c.if2.true)))

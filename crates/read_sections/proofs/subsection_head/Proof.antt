@@ -8,7 +8,7 @@ use lib.ListN.{length, drop}
 use borrow.Author.Rules.{rules}
 use Rattle.format.specs.Reading.{Test}
 use Rattle.read_sections.specs.Refusals.{sub_head_checks}
-use Rattle.read_sections.proofs.Laws.{Left, all_left, passed, failed, none_left, zero-yes, zero-not, at_least, below, at_most, above, byte_at, both_yes, first_not, second_not}
+use Rattle.read_sections.proofs.Laws.{Left, all_left, passed, failed, none_left, zero_yes, zero_not, at_least, below, at_most, above, byte_at, both_yes, first_not, second_not}
 use Rattle.read_sections.proofs.subsection_head.Statement.{statement}
 use Rattle.read_sections.proofs.subsection_head.Tie as tie
 
@@ -46,5 +46,5 @@ subsection-head-spec =
     (λ c. failed (past-1 c.before) (ap not c.if3.true))
     (λ c. search rules)
     (λ c. search rules)
-    (λ c. failed (past-2 c.before.before) (zero-not _ _ 4 1 (byte_at _ _ 5 4 (five c.before.before.before) (omega arith)) c.if4.true))
-    (λ c. none_left (passed (past-2 c.before.before) (zero-yes _ _ 4 1 (byte_at _ _ 5 4 (five c.before.before.before) (omega arith)) c.if4.false))))
+    (λ c. failed (past-2 c.before.before) (zero_not _ _ 4 1 (byte_at _ _ 5 4 (five c.before.before.before) (omega arith)) c.if4.true))
+    (λ c. none_left (passed (past-2 c.before.before) (zero_yes _ _ 4 1 (byte_at _ _ 5 4 (five c.before.before.before) (omega arith)) c.if4.false))))

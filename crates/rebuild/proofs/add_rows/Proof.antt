@@ -7,7 +7,7 @@ use lib.ListN.{length, drop}
 use Rattle.format.specs.Legal.{Legal}
 use Rattle.format.specs.Reading.{found}
 use Rattle.format.specs.Claims.{additions}
-use Rattle.rebuild.proofs.Laws.{row_there, one-added, accepted_not, all_added}
+use Rattle.rebuild.proofs.Laws.{row_there, one_added, accepted_not, all_added}
 use borrow.Author.Rules.{rules}
 use Rattle.rebuild.proofs.add_rows.Statement.{statement}
 use Rattle.rebuild.proofs.add_rows.Tie as tie
@@ -37,7 +37,7 @@ same_length c = search rules
 returns : tie.Need-returns invariant-loop decreases-loop
 returns c =
     λ l e h.
-    let w = one-added c.before.before.before.before.before.before.before.before.before.before.requires c.before.before.before.before.before.before.loop-test.true _ l e (c.before.before.before.before.before.before.before.loop.invariant.2 l e h) c.before.before.before.before.add_row.ensures in
+    let w = one_added c.before.before.before.before.before.before.before.before.before.before.requires c.before.before.before.before.before.before.loop-test.true _ l e (c.before.before.before.before.before.before.before.loop.invariant.2 l e h) c.before.before.before.before.add_row.ensures in
     absurd (accepted_not c.before.before.before.before.add_row.result w.0.0 w.0.1 c.before.match.keys2)
 
 add_row : tie.Need-overflow-add-row invariant-loop decreases-loop
@@ -48,7 +48,7 @@ loop-less c = omega arith
 
 loop-again : tie.Need-loop-preserved invariant-loop decreases-loop
 loop-again c =
-    (omega arith, omega arith, λ l e h. (one-added c.before.before.before.before.before.before.before.before.before.before.before.requires c.before.before.before.before.before.before.before.loop-test.true _ l e (c.before.before.before.before.before.before.before.before.loop.invariant.2 l e h) c.before.before.before.before.before.add_row.ensures).1)
+    (omega arith, omega arith, λ l e h. (one_added c.before.before.before.before.before.before.before.before.before.before.before.requires c.before.before.before.before.before.before.before.loop-test.true _ l e (c.before.before.before.before.before.before.before.before.loop.invariant.2 l e h) c.before.before.before.before.before.add_row.ensures).1)
 
 same-length-2 : tie.Need-same-length-2 invariant-loop decreases-loop
 same-length-2 c = search rules

@@ -2,7 +2,7 @@
 use mathlib.Core.Path.{sym, ◌∙◌}
 use native.Mathlib.Omega.{arith}
 use Rattle.read_fields.proofs.Sizes.{bytes_of}
-use Rattle.rebuild.proofs.Laws.{own_refusal, no_room, whole, has-rows}
+use Rattle.rebuild.proofs.Laws.{own_refusal, no_room, whole, has_rows}
 use borrow.Author.Rules.{rules}
 use Rattle.rebuild.proofs.rebuild.Statement.{statement}
 use Rattle.rebuild.proofs.rebuild.Tie as tie
@@ -27,7 +27,7 @@ build-requires : tie.Need-build-requires
 build-requires c κs =
     let a = c.before.before.before.before.before.before.before.before.args in
     let e = sym c.before.before.before.a2.given.1 ∙ c.before.before.before.before.before.read.ensures in
-    (has-rows a.token.now a.draft.now e (bytes_of a.token.now (λ k. (c.before.before.before.before.before.before.before.shared-slice-known.given k).fits)), omega arith)
+    (has_rows a.token.now a.draft.now e (bytes_of a.token.now (λ k. (c.before.before.before.before.before.before.before.shared-slice-known.given k).fits)), omega arith)
 
 returns-2 : tie.Need-returns-2
 returns-2 c = own_refusal c.before.before.before.before.before.before.args.token.now c.before.before.before.before.before.before.args.draft.now (sym c.before.a.given.1 ∙ c.before.before.before.read.ensures)

@@ -1,7 +1,7 @@
 -- Where a field lies: what is looked for among the fields that are left is what was looked for at first.
 use native.Mathlib.Omega.{arith}
 use Rattle.view_layouts.specs.Digits.{Slotting}
-use Rattle.view_layouts.proofs.Turns.{starts, here, count_room, lies-here, goes_on, lies-nowhere}
+use Rattle.view_layouts.proofs.Turns.{starts, here, count_room, lies_here, goes_on, lies_nowhere}
 use Rattle.view_layouts.proofs.slot_at.Statement.{statement}
 use Rattle.view_layouts.proofs.slot_at.Tie as tie
 
@@ -33,7 +33,7 @@ cast-t14 c =
 returns : tie.Need-returns invariant-loop decreases-loop
 returns c =
     let w = here c.before.before.before.loop.invariant c.before.before.loop-test.true in
-    lies-here w c.if1.true c.before.width.ensures
+    lies_here w c.if1.true c.before.width.ensures
 
 count-requires : tie.Need-count-requires invariant-loop decreases-loop
 count-requires c κs =
@@ -62,7 +62,7 @@ loop-again c =
     goes_on w c.before.before.if1.false c.before.before.before.width.ensures c.before.count.ensures c.count2.ensures
 
 returns-2 : tie.Need-returns-2 invariant-loop decreases-loop
-returns-2 c = lies-nowhere c.before.loop.invariant c.loop-test.false
+returns-2 c = lies_nowhere c.before.loop.invariant c.loop-test.false
 
 pub slot-at-spec : {M : Type 1} → statement M
 slot-at-spec =

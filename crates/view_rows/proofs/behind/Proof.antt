@@ -2,7 +2,7 @@
 use mathlib.Core.Path.{refl}
 use native.Mathlib.Omega.{arith}
 use Rattle.read_rows.proofs.Places.{four}
-use Rattle.view_rows.proofs.Places.{section-behind, sub-behind}
+use Rattle.view_rows.proofs.Places.{section_behind, sub_behind}
 use borrow.Author.Rules.{rules}
 use Rattle.view_rows.proofs.behind.Statement.{statement}
 use Rattle.view_rows.proofs.behind.Tie as tie
@@ -24,7 +24,7 @@ add-t11 : tie.Need-overflow-add-t11
 add-t11 c =
     let i = c.before.before in
     let w = i.before.before.before.before.requires in
-    let b = section-behind i.if1.true i.before.before.two.ensures.0 c.own-length.ensures refl in
+    let b = section_behind i.if1.true i.before.before.two.ensures.0 c.own-length.ensures refl in
     let l = (b w.part w.behind w.left).1 in
     omega (arith, l.front, l.short)
 
@@ -43,7 +43,7 @@ returns : tie.Need-returns
 returns c =
     let n = c.before.before in
     let i = n.before.before in
-    section-behind i.if1.true i.before.before.two.ensures.0 n.own-length.ensures c.rules-with.ensures
+    section_behind i.if1.true i.before.before.two.ensures.0 n.own-length.ensures c.rules-with.ensures
 
 add-t6 : tie.Need-overflow-add-t6
 add-t6 c = search rules
@@ -52,7 +52,7 @@ add-t15 : tie.Need-overflow-add-t15
 add-t15 c = search rules
 
 returns-2 : tie.Need-returns-2
-returns-2 c = sub-behind c.before.if1.false c.before.before.before.two.ensures.0
+returns-2 c = sub_behind c.before.if1.false c.before.before.before.two.ensures.0
 
 pub behind-spec : {M : Type 1} → statement M
 behind-spec =

@@ -3,7 +3,7 @@ use Prim.Native.Nat.{◌-◌}
 use native.Mathlib.Omega.{arith}
 use lib.ListN.{length}
 use Rattle.view_rows.specs.Walk.{Seeking}
-use Rattle.view_rows.proofs.Searching.{seeks, seek-begins, seek-on, seek-stands, seek_found, seek-none}
+use Rattle.view_rows.proofs.Searching.{seeks, seek_begins, seek_on, seek_stands, seek_found, seek_none}
 use Rattle.view_rows.proofs.Places.{further}
 use Rattle.view_rows.proofs.field_in.Statement.{statement}
 use Rattle.view_rows.proofs.field_in.Tie as tie
@@ -21,10 +21,10 @@ loop-holds : tie.Need-loop-init invariant-loop decreases-loop
 loop-holds c = seeks c.before.before.requires c.start.ensures
 
 row-at-requires : tie.Need-row-at-requires invariant-loop decreases-loop
-row-at-requires c κs = seek-begins c.before.before.before.loop.invariant c.before.if1.true
+row-at-requires c κs = seek_begins c.before.before.before.loop.invariant c.before.if1.true
 
 slot-at-requires : tie.Need-slot-at-requires invariant-loop decreases-loop
-slot-at-requires c κs = seek-stands c.before.before.before.before.loop.invariant c.before.before.if1.true c.row_at.ensures
+slot-at-requires c κs = seek_stands c.before.before.before.before.loop.invariant c.before.before.if1.true c.row_at.ensures
 
 returns : tie.Need-returns invariant-loop decreases-loop
 returns c =
@@ -32,21 +32,21 @@ returns c =
     seek_found w c.before.before.before.if1.true c.before.before.if2.true c.before.row_at.ensures c.slot_at.ensures
 
 behind-requires : tie.Need-behind-requires invariant-loop decreases-loop
-behind-requires c κs = seek-begins c.before.before.before.loop.invariant c.before.if1.true
+behind-requires c κs = seek_begins c.before.before.before.loop.invariant c.before.if1.true
 
 sub-left : tie.Need-overflow-sub-left invariant-loop decreases-loop
 sub-left c = omega (arith, c.before.if2.false)
 
 loop-less : tie.Need-loop-smaller invariant-loop decreases-loop
 loop-less c =
-    let b = seek-begins c.before.before.before.before.loop.invariant c.before.before.if1.true in
+    let b = seek_begins c.before.before.before.before.loop.invariant c.before.before.if1.true in
     omega (arith, further b c.behind.ensures, c.before.before.if1.true)
 
 loop-again : tie.Need-loop-preserved invariant-loop decreases-loop
-loop-again c = seek-on c.before.before.before.before.loop.invariant c.before.before.if1.true c.before.if2.false c.behind.ensures
+loop-again c = seek_on c.before.before.before.before.loop.invariant c.before.before.if1.true c.before.if2.false c.behind.ensures
 
 returns-2 : tie.Need-returns-2 invariant-loop decreases-loop
-returns-2 c = seek-none c.before.before.before.before.before.args.field c.before.before.loop.invariant c.if1.false
+returns-2 c = seek_none c.before.before.before.before.before.args.field c.before.before.loop.invariant c.if1.false
 
 pub field-in-spec : {M : Type 1} → statement M
 field-in-spec =

@@ -3,7 +3,7 @@ use mathlib.Core.Path.{ap, ◌∙◌}
 use native.Mathlib.Omega.{arith}
 use Rattle.read_rows.specs.Places.{rule_in}
 use Rattle.read_rows.proofs.Places.{four, id_below}
-use Rattle.view_rows.proofs.Places.{section-row, sub_row}
+use Rattle.view_rows.proofs.Places.{section_row, sub_row}
 use borrow.Author.Rules.{rules}
 use Rattle.view_rows.proofs.row_at.Statement.{statement}
 use Rattle.view_rows.proofs.row_at.Tie as tie
@@ -44,7 +44,7 @@ returns : tie.Need-returns
 returns c =
     let g = c.before.before in
     let i = g.before.before in
-    section-row i.if1.true i.before.before.two.ensures.0 (c.rule-in.ensures ∙ ap (rule_in _) g.rules-with.ensures)
+    section_row i.if1.true i.before.before.two.ensures.0 (c.rule-in.ensures ∙ ap (rule_in _) g.rules-with.ensures)
 
 cast-t17 : tie.Need-overflow-cast-t17
 cast-t17 c = search rules

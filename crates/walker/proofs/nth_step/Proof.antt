@@ -55,7 +55,7 @@ use Rattle.walker.specs.declared.Walker.{Walker}
 use Rattle.walker.specs.contracts.Walker as T
 use Rattle.walker.proofs.Walker.TheLaws as T'
 use Rattle.walker.proofs.Laws.{more, some_left, reached}
-use Rattle.walker.proofs.Lending.{held_ty, Next, Own, Cell, Kept, lent, to-next, lend, back}
+use Rattle.walker.proofs.Lending.{held_ty, Next, Own, Cell, Kept, lent, to_next, lend, back}
 use Rattle.walker.specs.contracts.start as starts
 use Rattle.walker.proofs.start.Symbol as start-def
 use Rattle.walker.proofs.start.Symbol.{name as #walker·start}
@@ -280,9 +280,9 @@ module _ {M : Type 1} {𝓤 : Ura M} (𝓛 : Logic 𝓤) (mem : Memory → SProp
           (λ goes. rewrite ! 5 (λ (z : Bool). ‵ (fat full_share ty_bool l₈ 0 (vbool z))) goes refl $ stays ! (load ! (from ! (stop !)) (look ! 5 refl)) $
           assigns ! (addr ! (from ! (stop !))) (from ! (stop !)) (init ! 3 refl (tt, tt)) $ move ! (15 ∷ 0 ∷ 1 ∷ []) $
           -- [the reader's cell; what it owns; the lifetime; what the bytes own; _9@4 …]
-          use3 𝓛 (later (some (λ (a : ℕ). some (λ (δ : GName). raw ((Next 𝓛 mem run).pre (to-next 𝓛 mem run κ q l₃ a δ d)) ⊛ raw (Kept 𝓛 mem run κ q l₃ a δ))))) (lend 𝓛 mem run κ q l₃ d) $ await ! tt $ pick ! (λ a. pick ! (λ δ. split ! $
+          use3 𝓛 (later (some (λ (a : ℕ). some (λ (δ : GName). raw ((Next 𝓛 mem run).pre (to_next 𝓛 mem run κ q l₃ a δ d)) ⊛ raw (Kept 𝓛 mem run κ q l₃ a δ))))) (lend 𝓛 mem run κ q l₃ d) $ await ! tt $ pick ! (λ a. pick ! (λ δ. split ! $
           -- [what `next` asks; what is kept; what the bytes own; _9@3 …; _4@13; the end of _3's place@15; _2@16 …]
-          calls_at ! fm (Next 𝓛 mem run) known_next (to-next 𝓛 mem run κ q l₃ a δ d) (and_then ! (load ! (from ! (stop !)) (look ! 3 refl)) (no_more !)) (λ u'.
+          calls_at ! fm (Next 𝓛 mem run) known_next (to_next 𝓛 mem run κ q l₃ a δ d) (and_then ! (load ! (from ! (stop !)) (look ! 3 refl)) (no_more !)) (λ u'.
           use1 𝓛 (later (some (λ (z : Step). ((‵ (flft (a ∷ κ) (PosShare.left q)) ⊛ ‵ (flft κ (PosShare.right q)) ⊛ ‵ ftrue) ⊛ ‵ ((S.the_row).own_val z (u' ∷ []))) ⊛ raw (ensured 𝓛 nexts.ended (nexts.clauses 𝓛 mem run) (a ∷ κ, (κ, tt)) (lent 𝓛 mem run κ q l₃ δ d, tt) tt z)))) (id⊢ 𝓤 _) $ await ! tt $ pick ! (λ t'.
           split ! $ move ! (1 ∷ []) $ use1 𝓛 (some (λ (z : Walker × Unit {0}). ‵ (lasts nexts.ended (a ∷ κ, (κ, tt)) (lent 𝓛 mem run κ q l₃ δ d, tt) z) ⊛ raw (fact 𝓤 (NextSays d z.0 t')))) (id⊢ 𝓤 _) $ pick ! (λ ws.
           split ! $ move ! (1 ∷ []) $ heard ! (NextSays d ws.0 t') (λ f. fsplit ! $ move ! (2 ∷ []) $ split ! $ move ! (1 ∷ []) $
@@ -350,9 +350,9 @@ module _ {M : Type 1} {𝓤 : Ura M} (𝓛 : Logic 𝓤) (mem : Memory → SProp
         assigns ! (addr ! (from ! (stop !))) (from ! (stop !)) (init ! 9 refl (tt, tt)) $
         move ! (1 ∷ []) $ split ! $ move ! (18 ∷ 2 ∷ 0 ∷ []) $
         -- [the reader's cell; what it owns; the lifetime; true; what the bytes own; what the number owns; true; _9@7 …]
-        use3 𝓛 (later (some (λ (a : ℕ). some (λ (δ : GName). raw ((Next 𝓛 mem run).pre (to-next 𝓛 mem run κ q l₃ a δ r)) ⊛ raw (Kept 𝓛 mem run κ q l₃ a δ))))) (lend 𝓛 mem run κ q l₃ r) $ await ! tt $ pick ! (λ a. pick ! (λ δ. split ! $
+        use3 𝓛 (later (some (λ (a : ℕ). some (λ (δ : GName). raw ((Next 𝓛 mem run).pre (to_next 𝓛 mem run κ q l₃ a δ r)) ⊛ raw (Kept 𝓛 mem run κ q l₃ a δ))))) (lend 𝓛 mem run κ q l₃ r) $ await ! tt $ pick ! (λ a. pick ! (λ δ. split ! $
         -- [what `next` asks; what is kept; true; what the bytes own; what the number owns; true; _9@6; _8@8; _7@10 …]
-        calls_at ! fm (Next 𝓛 mem run) known_next (to-next 𝓛 mem run κ q l₃ a δ r) (and_then ! (load ! (from ! (stop !)) (look ! 10 refl)) (no_more !)) (λ u'.
+        calls_at ! fm (Next 𝓛 mem run) known_next (to_next 𝓛 mem run κ q l₃ a δ r) (and_then ! (load ! (from ! (stop !)) (look ! 10 refl)) (no_more !)) (λ u'.
         use1 𝓛 (later (some (λ (z : Step). ((‵ (flft (a ∷ κ) (PosShare.left q)) ⊛ ‵ (flft κ (PosShare.right q)) ⊛ ‵ ftrue) ⊛ ‵ ((S.the_row).own_val z (u' ∷ []))) ⊛ raw (ensured 𝓛 nexts.ended (nexts.clauses 𝓛 mem run) (a ∷ κ, (κ, tt)) (lent 𝓛 mem run κ q l₃ δ r, tt) tt z)))) (id⊢ 𝓤 _) $ await ! tt $ pick ! (λ t.
         split ! $ move ! (1 ∷ []) $ use1 𝓛 (some (λ (z : Walker × Unit {0}). ‵ (lasts nexts.ended (a ∷ κ, (κ, tt)) (lent 𝓛 mem run κ q l₃ δ r, tt) z) ⊛ raw (fact 𝓤 (NextSays r z.0 t)))) (id⊢ 𝓤 _) $ pick ! (λ ws.
         split ! $ move ! (1 ∷ []) $ heard ! (NextSays r ws.0 t) (λ f. fsplit ! $ move ! (2 ∷ []) $ split ! $ move ! (1 ∷ []) $

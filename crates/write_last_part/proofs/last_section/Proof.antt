@@ -7,7 +7,7 @@ use lib.ListN.{take}
 use lib.Seq.{length-take-le}
 use borrow.Author.Rules.{rules}
 use Rattle.reading.proofs.Filled.{bytes_of}
-use Rattle.read_token.proofs.Headers.{header-lengths}
+use Rattle.read_token.proofs.Headers.{header_lengths}
 use Rattle.write_last_part.specs.Tiling.{LastOf}
 use Rattle.write_last_part.proofs.Whole.{header_unread, section_last}
 use Rattle.write_last_part.proofs.last_section.Statement.{statement}
@@ -21,19 +21,19 @@ returns c = header_unread c.before.before.before.args.draft.now c.before.header.
 
 two-requires : tie.Need-two-requires
 two-requires c κs =
-    let l = header-lengths false c.before.before.before.args.draft.now c.before.header.ensures c.if1.false in
+    let l = header_lengths false c.before.before.before.args.draft.now c.before.header.ensures c.if1.false in
     omega (arith, l.front)
 
 slice-aggregate-last-part : tie.Need-slice-aggregate-last-part
 slice-aggregate-last-part c =
     let d = c.before.before.before.before.before.args.draft.now in
-    let l = header-lengths false d c.before.before.before.header.ensures c.before.before.if1.false in
+    let l = header_lengths false d c.before.before.before.header.ensures c.before.before.if1.false in
     sym (length-take-le _ d (omega (arith, l.within, c.before.two.ensures.0)))
 
 last-part-requires : tie.Need-last-part-requires
 last-part-requires c κs =
     let d = c.before.before.before.before.before.args.draft.now in
-    let l = header-lengths false d c.before.before.before.header.ensures c.before.before.if1.false in
+    let l = header_lengths false d c.before.before.before.header.ensures c.before.before.if1.false in
     let n = c.before.two.ensures.0 in
     let m = length-take-le c.before.two.result d (omega (arith, l.within, n)) in
     (omega (arith, m, n, l.least), omega (arith, m, n, l.most))

@@ -8,7 +8,7 @@ use Rattle.reading.proofs.Filled.{bytes_of}
 use Rattle.write_appended_part.specs.Appended.{appended}
 use Rattle.write_subsection.proofs.Adding.{last_standing}
 use Rattle.write_section.proofs.Calls.{own_refused, own_late, own_found, left_refused, left_found}
-use Rattle.write_subsection.proofs.LastHead.{last-asked, left}
+use Rattle.write_subsection.proofs.LastHead.{last_asked, left}
 use borrow.Author.Rules.{rules}
 use Rattle.write_subsection.proofs.append_subsection.Statement.{statement}
 use Rattle.write_subsection.proofs.append_subsection.Tie as tie
@@ -89,7 +89,7 @@ last-alone-requires c κs =
     let b = bytes_of d (λ i. (c.before.before.before.before.before.before.before.before.before.before.before.before.before.before.before.before.slice-known.given i).fits) in
     let v = bytes_of w (λ i. (c.before.before.before.before.before.before.before.before.before.before.before.before.before.before.before.slice-known2.given i).fits) in
     let a = sym c.before.before.before.before.a.given.1 ∙ p.append.ensures.0 in
-    last-asked d w s.args.place s.args.first b v s.requires a c.before.before.before.before.before.before.before.before.before.before.before.before.before.two.ensures.0 p.append.ensures.1
+    last_asked d w s.args.place s.args.first b v s.requires a c.before.before.before.before.before.before.before.before.before.before.before.before.before.two.ensures.0 p.append.ensures.1
 
 enum-known-own : tie.Need-enum-known-own
 enum-known-own c = search rules

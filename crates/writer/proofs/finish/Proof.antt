@@ -3,7 +3,7 @@ use mathlib.Core.Path.{sym, ◌∙◌}
 use native.Mathlib.Omega.{arith}
 use lib.Seq.{length-take-le}
 use Rattle.write_section.proofs.Calls.{reads, header_stands}
-use Rattle.writer.proofs.Finishing.{finish_own, finish-refused, finish-done}
+use Rattle.writer.proofs.Finishing.{finish_own, finish_refused, finish_done}
 use borrow.Author.Rules.{rules}
 use Rattle.writer.proofs.finish.Statement.{statement}
 use Rattle.writer.proofs.finish.Tie as tie
@@ -50,13 +50,13 @@ returns-2 : tie.Need-returns-2
 returns-2 c =
     let d = c.before.before.before.before.before.before.before.before.before.before.before.args.draft.now in
     let r = reads d (sym c.before.before.before.before.before.before.before.a2.given.1 ∙ c.before.before.before.before.before.before.before.before.before.read-draft.ensures) in
-    finish-refused d r c.before.before.before.before.before.two.ensures.0 (sym c.before.b.given.1 ∙ c.before.before.before.read.ensures)
+    finish_refused d r c.before.before.before.before.before.two.ensures.0 (sym c.before.b.given.1 ∙ c.before.before.before.read.ensures)
 
 returns-3 : tie.Need-returns-3
 returns-3 c =
     let d = c.before.before.before.before.before.before.before.before.before.before.before.args.draft.now in
     let r = reads d (sym c.before.before.before.before.before.before.before.a2.given.1 ∙ c.before.before.before.before.before.before.before.before.before.read-draft.ensures) in
-    finish-done d r c.before.before.before.before.before.two.ensures.0 (sym c.before.b2.given.1 ∙ c.before.before.before.read.ensures)
+    finish_done d r c.before.before.before.before.before.two.ensures.0 (sym c.before.b2.given.1 ∙ c.before.before.before.read.ensures)
 
 pub finish_spec : {M : Type 1} → statement M
 finish_spec =

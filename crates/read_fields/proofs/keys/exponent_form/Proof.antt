@@ -8,7 +8,7 @@ use lib.ListN.{length, take, drop, length-drop}
 use lib.Seq.{take_all}
 use Rattle.format.specs.Bytes.{number}
 use Rattle.read_fields.proofs.Sizes.{bytes_of}
-use Rattle.read_fields.proofs.Exponents.{exponent-even, exponent-shorter, exponent-zeros, exponent-more}
+use Rattle.read_fields.proofs.Exponents.{exponent_even, exponent_shorter, exponent_zeros, exponent_more}
 use borrow.Author.Rules.{rules}
 use Rattle.read_fields.proofs.keys.exponent_form.Statement.{statement}
 use Rattle.read_fields.proofs.keys.exponent_form.Tie as tie
@@ -22,13 +22,13 @@ shared-slice-read-if1 c = search rules
 returns : tie.Need-returns
 returns c =
     let s = c.before.before.before.before in
-    sym (exponent-even s.args.exponent.now s.args.modulus.now s.requires.0 c.if1.true)
+    sym (exponent_even s.args.exponent.now s.args.modulus.now s.requires.0 c.if1.true)
 
 returns-2 : tie.Need-returns-2
 returns-2 c =
     let s = c.before.before.before.before.before in
     let e = s.args.exponent.now in
-    sym (exponent-shorter e s.args.modulus.now s.requires.0 c.before.if1.false (bytes_of e (λ k. (c.before.before.before.before.shared-slice-known.given k).fits)) c.if2.true s.requires.1)
+    sym (exponent_shorter e s.args.modulus.now s.requires.0 c.before.if1.false (bytes_of e (λ k. (c.before.before.before.before.shared-slice-known.given k).fits)) c.if2.true s.requires.1)
 
 sub-d : tie.Need-overflow-sub-d
 sub-d c = search rules
@@ -56,14 +56,14 @@ returns-3 c =
     let d = length e - length m in
     let l = length-drop d e in
     let q : take (length e - d) (drop d e) ≡ drop d e = take_all (length e - d) (drop d e) (omega arith) in
-    exponent-zeros e m s.requires.0 c.before.before.before.before.before.if1.false c.before.before.before.before.if2.false (sym c.before.before.before.all-zero.ensures ∙ c.before.before.if3.true)
+    exponent_zeros e m s.requires.0 c.before.before.before.before.before.if1.false c.before.before.before.before.if2.false (sym c.before.before.before.all-zero.ensures ∙ c.before.before.if3.true)
     (c.less.ensures ∙ ap (λ (y : List ℕ). ltb (number y) (number m)) q)
 
 returns-4 : tie.Need-returns-4
 returns-4 c =
     let s = c.before.before.before.before.before.before.before in
     let m = s.args.modulus.now in
-    sym (exponent-more s.args.exponent.now m s.requires.0 c.before.before.before.if1.false (bytes_of m (λ k. (c.before.before.before.before.before.shared-slice-known2.given k).fits)) c.before.before.if2.false (sym c.before.all-zero.ensures ∙ c.if3.false))
+    sym (exponent_more s.args.exponent.now m s.requires.0 c.before.before.before.if1.false (bytes_of m (λ k. (c.before.before.before.before.before.shared-slice-known2.given k).fits)) c.before.before.if2.false (sym c.before.all-zero.ensures ∙ c.if3.false))
 
 pub exponent-form-spec : {M : Type 1} → statement M
 exponent-form-spec =

@@ -7,7 +7,7 @@ use lib.ListN.{length, drop}
 use borrow.Author.Rules.{rules}
 use Rattle.format.specs.Bytes.{number}
 use Rattle.read_fields.proofs.Sizes.{bytes_of}
-use Rattle.read_fields.proofs.Order.{less_done, less-here, more-here, same_here}
+use Rattle.read_fields.proofs.Order.{less_done, less_here, more_here, same_here}
 use Rattle.read_fields.proofs.keys.less.Statement.{statement}
 use Rattle.read_fields.proofs.keys.less.Tie as tie
 
@@ -29,13 +29,13 @@ shared-slice-read-y c = let h = c.before.before.loop-test.true in let e = c.befo
 returns : tie.Need-returns invariant-loop decreases-loop
 returns c =
     let a = c.before.before.before.before.before.args in
-    sym (less-here a.a.now a.b.now c.before.before.before.before.loop.p c.before.before.before.before.before.requires c.before.before.before.loop-test.true
+    sym (less_here a.a.now a.b.now c.before.before.before.before.loop.p c.before.before.before.before.before.requires c.before.before.before.loop-test.true
     (bytes_of a.a.now (λ k. (c.before.before.shared-slice-known.given k).fits)) c.if1.true) ∙ c.before.before.before.before.loop.invariant
 
 returns-2 : tie.Need-returns-2 invariant-loop decreases-loop
 returns-2 c =
     let a = c.before.before.before.before.before.before.args in
-    sym (more-here a.a.now a.b.now c.before.before.before.before.before.loop.p c.before.before.before.before.before.before.requires c.before.before.before.before.loop-test.true
+    sym (more_here a.a.now a.b.now c.before.before.before.before.before.loop.p c.before.before.before.before.before.before.requires c.before.before.before.before.loop-test.true
     (bytes_of a.b.now (λ k. (c.before.before.shared-slice-known2.given k).fits)) c.if2.true) ∙ c.before.before.before.before.before.loop.invariant
 
 add-p : tie.Need-overflow-add-p invariant-loop decreases-loop

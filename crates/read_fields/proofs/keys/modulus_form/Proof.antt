@@ -1,7 +1,7 @@
 -- The modulus, by the bits of its first byte and the parity of its last. Assumes nothing.
 use mathlib.Core.Path.{sym}
 use native.Mathlib.Omega.{arith}
-use Rattle.read_fields.proofs.Sizes.{bytes_of, modulus-not, modulus-last}
+use Rattle.read_fields.proofs.Sizes.{bytes_of, modulus_not, modulus_last}
 use borrow.Author.Rules.{rules}
 use Rattle.read_fields.proofs.keys.modulus_form.Statement.{statement}
 use Rattle.read_fields.proofs.keys.modulus_form.Tie as tie
@@ -22,7 +22,7 @@ returns : tie.Need-returns
 returns c =
     let m = c.before.before.args.modulus.now in
     let p = c.before.before.requires in
-    sym (modulus-not m (bytes_of m (λ k. (c.before.shared-slice-known.given k).fits)) c.before.before.args.bits (omega (arith, p.0)) p.2 c.if1.true)
+    sym (modulus_not m (bytes_of m (λ k. (c.before.shared-slice-known.given k).fits)) c.before.before.args.bits (omega (arith, p.0)) p.2 c.if1.true)
 
 sub-result : tie.Need-overflow-sub-result
 sub-result c = search rules
@@ -34,7 +34,7 @@ returns-2 : tie.Need-returns-2
 returns-2 c =
     let m = c.before.before.before.args.modulus.now in
     let p = c.before.before.before.requires in
-    sym (modulus-last m (bytes_of m (λ k. (c.before.before.shared-slice-known.given k).fits)) c.before.before.before.args.bits (omega (arith, p.0)) p.2 c.before.if1.false)
+    sym (modulus_last m (bytes_of m (λ k. (c.before.before.shared-slice-known.given k).fits)) c.before.before.before.args.bits (omega (arith, p.0)) p.2 c.before.if1.false)
 
 pub modulus-form-spec : {M : Type 1} → statement M
 modulus-form-spec =

@@ -10,18 +10,18 @@ use borrow.Author.Tests.{le-leb, lt-leb, not-true, not-false}
 use borrow.Author.Rules.{rules}
 use Rattle.format.specs.Forms.{key_length}
 use Rattle.format.specs.Bytes.{number, bytes_at}
-use Rattle.format.specs.Parts.{exportParameters}
+use Rattle.format.specs.Parts.{export_parameters}
 use Rattle.format.specs.Rules.{variant_length, control_length}
 use Rattle.format.specs.Reading.{field_checks}
 use Rattle.read_sections.specs.Refusals.{coded}
-use Rattle.read_sections.proofs.Laws.{Left, all_left, passed, failed, none_left, zero-yes, zero-not, number_at, byte_at}
+use Rattle.read_sections.proofs.Laws.{Left, all_left, passed, failed, none_left, zero_yes, zero_not, number_at, byte_at}
 use Rattle.read_rule_subsections.proofs.Laws.{length_behind}
 use Rattle.read_rule_subsections.proofs.parameters.export_fields.Statement.{statement}
 use Rattle.read_rule_subsections.proofs.parameters.export_fields.Tie as tie
 
 -- the first k tests of the fields have passed
 abbrev Past : ℕ → tie.Start → Type 0
-Past k c = (y : Bool) → let cs = field_checks y exportParameters (drop c.args.q c.args.s.now) in Left cs (drop k cs)
+Past k c = (y : Bool) → let cs = field_checks y export_parameters (drop c.args.q c.args.s.now) in Left cs (drop k cs)
 
 -- the w bytes at offset o of the subsection, and what one of its first twelve states
 abbrev At : tie.Start → ℕ → ℕ → List ℕ
@@ -44,10 +44,10 @@ vector : (c : tie.Start) → c.args.c ≡ C c
 vector c = c.requires.4 ∙ ap (λ (i : ℕ). number (At c (11 + i) 1)) c.requires.3
 
 past-1 : (c : tie.Else1) → Past 1 c.before.before.before
-past-1 c y = passed (all_left _) (zero-yes _ _ 5 2 c.before.two.ensures.0 c.if1.false)
+past-1 c y = passed (all_left _) (zero_yes _ _ 5 2 c.before.two.ensures.0 c.if1.false)
 
 past-2 : (c : tie.Else2) → Past 2 c.before.before.before.before.before
-past-2 c y = passed (past-1 c.before.before y) (zero-yes _ _ 7 1 (byte_at _ _ 12 7 (room c.before.before.before.before.before) (omega arith)) c.if2.false)
+past-2 c y = passed (past-1 c.before.before y) (zero_yes _ _ 7 1 (byte_at _ _ 12 7 (room c.before.before.before.before.before) (omega arith)) c.if2.false)
 
 -- the minimum and the maximum, at offsets 8 and 9
 key : {b : Bool} (c : tie.Start) (o : ℕ) → o < 12 → b ≡ key_length (get_or c.args.s.now (c.args.q + o) 0) → key_length (number (At c o 1)) ≡ b
@@ -88,10 +88,10 @@ export-fields-spec =
     (tie.spec
     (λ c. search rules)
     (λ c κs. search rules)
-    (λ c y. failed (all_left _) (zero-not _ _ 5 2 c.before.two.ensures.0 c.if1.true))
+    (λ c y. failed (all_left _) (zero_not _ _ 5 2 c.before.two.ensures.0 c.if1.true))
     (λ c. search rules)
     (λ c. search rules)
-    (λ c y. failed (past-1 c.before.before y) (zero-not _ _ 7 1 (byte_at _ _ 12 7 (room c.before.before.before.before.before) (omega arith)) c.if2.true))
+    (λ c y. failed (past-1 c.before.before y) (zero_not _ _ 7 1 (byte_at _ _ 12 7 (room c.before.before.before.before.before) (omega arith)) c.if2.true))
     (λ c. search rules)
     (λ c. search rules)
     (λ c. search rules)

@@ -7,16 +7,16 @@ use lib.ListN.{drop}
 use borrow.Author.Tests.{eq-eqb, ne_eqb}
 use borrow.Author.Rules.{rules}
 use Rattle.format.specs.Bytes.{number, bytes_at}
-use Rattle.format.specs.Parts.{tokenParameters}
+use Rattle.format.specs.Parts.{token_parameters}
 use Rattle.format.specs.Reading.{stated, made_length, subsection_checks}
-use Rattle.read_sections.proofs.Laws.{Left, passed, failed, sub-head, number_at}
+use Rattle.read_sections.proofs.Laws.{Left, passed, failed, sub_head, number_at}
 use Rattle.read_rule_subsections.proofs.Laws.{There, head_there, byte_behind}
 use Rattle.read_rule_subsections.proofs.parameters.token_at.Statement.{statement}
 use Rattle.read_rule_subsections.proofs.parameters.token_at.Tie as tie
 
 -- the first k tests of the subsection have passed
 abbrev Past : ℕ → tie.Start → Type 0
-Past k c = (x : Bool) → let cs = subsection_checks x tokenParameters c.args.seen c.args.n (drop c.args.q c.args.s.now) in Left cs (drop k cs)
+Past k c = (x : Bool) → let cs = subsection_checks x token_parameters c.args.seen c.args.n (drop c.args.q c.args.s.now) in Left cs (drop k cs)
 
 -- what the byte at an offset states: the length of the masks, of the label template
 abbrev Count : tie.Start → ℕ → ℕ
@@ -27,7 +27,7 @@ room : (c : tie.Else1) → let b = c.before.before.before in There 10 b.args.s.n
 room c = head_there 10 _ _ _ _ c.before.before.before.requires.1 c.before.subsection-head.ensures c.if1.false
 
 past-1 : (c : tie.Else1) → Past 3 c.before.before.before
-past-1 c x = (sub-head 10 _ _ _ _ c.before.subsection-head.ensures).left c.if1.false
+past-1 c x = (sub_head 10 _ _ _ _ c.before.subsection-head.ensures).left c.if1.false
 
 -- what was read is what is stated
 states : (c : tie.After-two) → let b = c.before.before.before.before in c.two.result ≡ stated (drop b.args.q b.args.s.now)
@@ -43,7 +43,7 @@ label c =
     byte_behind (room c.before.before.before.before.before.before) (9 + m + m) (c.before.before.before.before.before.before.before.before.before.args.q + 9 + m + m) (omega (arith, c.before.before.if2.false)) (omega arith) c.wide2.ensures.0
 
 -- the length that its fields make
-made : (c : tie.After-wide2) → let b = c.before.before.before.before.before.before.before.before.before in let m = c.before.before.before.wide.result in 10 + m + m + c.wide2.result ≡ made_length tokenParameters (drop b.args.q b.args.s.now)
+made : (c : tie.After-wide2) → let b = c.before.before.before.before.before.before.before.before.before in let m = c.before.before.before.wide.result in 10 + m + m + c.wide2.result ≡ made_length token_parameters (drop b.args.q b.args.s.now)
 made c = let k = mask c.before.before.before in omega (arith, label c ∙ ap (λ (m : ℕ). Count c.before.before.before.before.before.before.before.before.before (9 + m + m)) k)
 
 pub token-at-spec : {M : Type 1} → statement M
@@ -51,7 +51,7 @@ token-at-spec =
     tie.close
     (tie.spec
     (λ c κs. search rules)
-    (λ c x. (sub-head 10 _ _ _ _ c.before.subsection-head.ensures).stop c.if1.true)
+    (λ c x. (sub_head 10 _ _ _ _ c.before.subsection-head.ensures).stop c.if1.true)
     (λ c. search rules)
     (λ c κs. search rules)
     (λ c. search rules)

@@ -10,18 +10,18 @@ use borrow.Author.Tests.{ne_eqb, not-true, not-false}
 use borrow.Author.Rules.{rules}
 use Rattle.format.specs.Bytes.{number, bytes_at}
 use Rattle.format.specs.Forms.{label_form, label_reach}
-use Rattle.format.specs.Parts.{tokenParameters}
+use Rattle.format.specs.Parts.{token_parameters}
 use Rattle.format.specs.Rules.{control_length}
 use Rattle.format.specs.Reading.{field_checks}
 use Rattle.read_sections.specs.Refusals.{coded}
-use Rattle.read_sections.proofs.Laws.{Left, all_left, passed, failed, none_left, zero-yes, zero-not, byte_at}
+use Rattle.read_sections.proofs.Laws.{Left, all_left, passed, failed, none_left, zero_yes, zero_not, byte_at}
 use Rattle.read_rule_subsections.proofs.Laws.{length_behind, label_at}
 use Rattle.read_rule_subsections.proofs.parameters.token_fields.Statement.{statement}
 use Rattle.read_rule_subsections.proofs.parameters.token_fields.Tie as tie
 
 -- the first k tests of the fields have passed
 abbrev Past : ℕ → tie.Start → Type 0
-Past k c = (x : Bool) → let cs = field_checks x tokenParameters (drop c.args.q c.args.s.now) in Left cs (drop k cs)
+Past k c = (x : Bool) → let cs = field_checks x token_parameters (drop c.args.q c.args.s.now) in Left cs (drop k cs)
 
 -- the w bytes at offset o of the subsection
 abbrev At : tie.Start → ℕ → ℕ → List ℕ
@@ -47,10 +47,10 @@ label-length : (c : tie.Start) → length (Label c) ≡ c.args.z
 label-length c = length_behind c.args.s.now c.args.q (9 + M c + M c + 1) (states-z c) (omega (arith, c.requires, c.requires.2))
 
 past-1 : (c : tie.Else1) → Past 1 c.before.before.before
-past-1 c x = passed (all_left _) (zero-yes _ _ 5 2 c.before.two.ensures.0 c.if1.false)
+past-1 c x = passed (all_left _) (zero_yes _ _ 5 2 c.before.two.ensures.0 c.if1.false)
 
 past-2 : (c : tie.Else2) → Past 2 c.before.before.before.before.before
-past-2 c x = passed (past-1 c.before.before x) (zero-yes _ _ 7 1 (byte_at _ _ 10 7 (room c.before.before.before.before.before) (omega arith)) c.if2.false)
+past-2 c x = passed (past-1 c.before.before x) (zero_yes _ _ 7 1 (byte_at _ _ 10 7 (room c.before.before.before.before.before) (omega arith)) c.if2.false)
 
 mask : (c : tie.After-control-length) → let b = c.before.before.before.before.before.before in c.control-length.result ≡ control_length (At b 9 (M b))
 mask c =
@@ -87,10 +87,10 @@ token-fields-spec =
     (tie.spec
     (λ c. search rules)
     (λ c κs. search rules)
-    (λ c x. failed (all_left _) (zero-not _ _ 5 2 c.before.two.ensures.0 c.if1.true))
+    (λ c x. failed (all_left _) (zero_not _ _ 5 2 c.before.two.ensures.0 c.if1.true))
     (λ c. search rules)
     (λ c. search rules)
-    (λ c x. failed (past-1 c.before.before x) (zero-not _ _ 7 1 (byte_at _ _ 10 7 (room c.before.before.before.before.before) (omega arith)) c.if2.true))
+    (λ c x. failed (past-1 c.before.before x) (zero_not _ _ 7 1 (byte_at _ _ 10 7 (room c.before.before.before.before.before) (omega arith)) c.if2.true))
     (λ c κs. search rules)
     (λ c x. failed (past-2 c.before.before x) (sym (mask c.before) ∙ not-true _ c.if3.true))
     (λ c x. let e = label-length c.before.before.before.before.before.before.before.before ∙ c.if4.true in none_left (passed (passed (past-3 c.before x) (rw e)) (rw e)))

@@ -8,25 +8,25 @@ use borrow.Author.Tests.{not-true, not-false}
 use borrow.Author.Rules.{rules}
 use Rattle.format.specs.Bytes.{bytes_at}
 use Rattle.format.specs.Forms.{rule_id_form, rule_id_reach}
-use Rattle.format.specs.Parts.{transportRule}
+use Rattle.format.specs.Parts.{transport_rule}
 use Rattle.format.specs.Reading.{subsection_checks}
 use Rattle.read_sections.specs.Refusals.{coded}
-use Rattle.read_sections.proofs.Laws.{Left, passed, failed, none_left, fixed-head, fixed-room, at_drop, field_at_is}
+use Rattle.read_sections.proofs.Laws.{Left, passed, failed, none_left, fixed_head, fixed_room, at_drop, field_at_is}
 use Rattle.read_rule_subsections.proofs.references.reference_at.Statement.{statement}
 use Rattle.read_rule_subsections.proofs.references.reference_at.Tie as tie
 
 -- the first k tests of the subsection have passed
 abbrev Past : ℕ → tie.Start → Type 0
-Past k c = (x : Bool) → let cs = subsection_checks x transportRule c.args.seen c.args.n (drop c.args.q c.args.s.now) in Left cs (drop k cs)
+Past k c = (x : Bool) → let cs = subsection_checks x transport_rule c.args.seen c.args.n (drop c.args.q c.args.s.now) in Left cs (drop k cs)
 
 -- after the head its 14 bytes are there
 room : (c : tie.Else1) → c.before.before.before.args.q + 14 ≤ length c.before.before.before.args.s.now
 room c =
-    let r = fixed-room 14 _ _ _ c.before.fixed-subsection-head.ensures c.if1.false in
+    let r = fixed_room 14 _ _ _ c.before.fixed-subsection-head.ensures c.if1.false in
     omega (arith, c.before.before.before.requires)
 
 past-1 : (c : tie.Else1) → Past 5 c.before.before.before
-past-1 c x = (fixed-head 14 _ _ _ _ c.before.fixed-subsection-head.ensures).left c.if1.false
+past-1 c x = (fixed_head 14 _ _ _ _ c.before.fixed-subsection-head.ensures).left c.if1.false
 
 form : (c : tie.After-rule-id-form) → let b = c.before.before.before.before in c.rule-id-form.result ≡ rule_id_form (bytes_at (drop b.args.q b.args.s.now) 6 8)
 form c = field_at_is rule_id_form _ _ 6 8 c.rule-id-form.ensures
@@ -36,7 +36,7 @@ reference-at-spec =
     tie.close
     (tie.spec
     (λ c κs. search rules)
-    (λ c x. (fixed-head 14 _ _ _ _ c.before.fixed-subsection-head.ensures).stop c.if1.true)
+    (λ c x. (fixed_head 14 _ _ _ _ c.before.fixed-subsection-head.ensures).stop c.if1.true)
     (λ c. search rules)
     (λ c κs. let r = room c in (omega arith, c.before.before.before.requires.3))
     (λ c. search rules)

@@ -8,7 +8,7 @@ use native.Mathlib.Omega.{arith}
 use lib.Dec.{eqb, leb}
 use lib.ListN.{length, get_or, drop}
 use borrow.Author.Tests.{ne_eqb}
-use Rattle.format.specs.Parts.{exportParameters, tokenParameters, Part}
+use Rattle.format.specs.Parts.{export_parameters, token_parameters, Part}
 use Rattle.format.specs.Rules.{of_kind, mask_covers}
 use Rattle.format.specs.Reading.{made_length, part_in}
 use Rattle.format.proofs.Reaching.{mask_none}
@@ -22,14 +22,14 @@ use Rattle.read_rules.proofs.subsections.mask_covers.Tie as tie
 
 -- both stand, and lie within the bytes
 room : (c : tie.Else2) → let b = c.before.before in
-    (b.args.a + 12 ≤ length b.args.s.now) × (b.args.b + made_length tokenParameters (drop b.args.b b.args.s.now) ≤ length b.args.s.now)
+    (b.args.a + 12 ≤ length b.args.s.now) × (b.args.b + made_length token_parameters (drop b.args.b b.args.s.now) ≤ length b.args.s.now)
 room c =
     let a = c.before.before.requires.1 (pos_of_ne-zero c.before.if1.false) in
     (omega arith, c.before.before.requires.2 (pos_of_ne-zero c.if2.false))
 
 -- the mask is none, or as long as the minimum
 both : (c : tie.Else2) (us : List Part) → let b = c.before.before in
-    of_kind exportParameters us ≡ standing b.args.s.now exportParameters b.args.a → of_kind tokenParameters us ≡ standing b.args.s.now tokenParameters b.args.b
+    of_kind export_parameters us ≡ standing b.args.s.now export_parameters b.args.a → of_kind token_parameters us ≡ standing b.args.s.now token_parameters b.args.b
     → mask_covers us ≡ (eqb (get_or b.args.s.now (b.args.b + 8) 0) 0 || leb (get_or b.args.s.now (b.args.a + 8) 0) (get_or b.args.s.now (b.args.b + 8) 0))
 both c us e f =
     let s = c.before.before.args.s.now in
@@ -37,8 +37,8 @@ both c us e f =
     let b = c.before.before.args.b in
     let r = room c in
     let m = number_at s b 8 1 (byte_number s (b + 8) (omega (arith, r))) in
-    mask_both us (part_in exportParameters (drop a s)) (part_in tokenParameters (drop b s)) (e ∙ standing_one s exportParameters a (pos_of_ne-zero c.before.if1.false))
-    (f ∙ standing_one s tokenParameters b (pos_of_ne-zero c.if2.false))
+    mask_both us (part_in export_parameters (drop a s)) (part_in token_parameters (drop b s)) (e ∙ standing_one s export_parameters a (pos_of_ne-zero c.before.if1.false))
+    (f ∙ standing_one s token_parameters b (pos_of_ne-zero c.if2.false))
     (sym (number_at s a 8 1 (byte_number s (a + 8) (omega (arith, r)))))
     (length_behind s b 9 m (omega (arith, r)))
 
@@ -46,8 +46,8 @@ pub mask-covers-spec : {M : Type 1} → statement M
 mask-covers-spec =
     tie.close
     (tie.spec
-    (λ c us e f. sym (mask_free us (e ∙ standing_none _ exportParameters c.if1.true)))
-    (λ c us e f. sym (mask_none us (f ∙ standing_none _ tokenParameters c.if2.true)))
+    (λ c us e f. sym (mask_free us (e ∙ standing_none _ export_parameters c.if1.true)))
+    (λ c us e f. sym (mask_none us (f ∙ standing_none _ token_parameters c.if2.true)))
     (λ c. let r = room c in omega (arith, r))
     (λ c. let r = room c.before in omega (arith, r))
     (λ c us e f. sym (both c.before.before us e f ∙ rw c.if3.true))

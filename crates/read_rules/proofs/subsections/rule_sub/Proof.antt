@@ -8,10 +8,10 @@ use lib.Dec.{eqb}
 use lib.ListN.{get_or, drop}
 use borrow.Author.Rules.{rules}
 use Rattle.format.specs.Bytes.{number, bytes_at}
-use Rattle.format.specs.Parts.{Kind, rule, transportVariant, transportRule, exportParameters, sourceRule, tokenParameters, tag, Part}
+use Rattle.format.specs.Parts.{Kind, rule, transport_variant, transport_rule, export_parameters, source_rule, token_parameters, tag, Part}
 use Rattle.format.specs.Reading.{subsection_kind, subsection_checks}
 use Rattle.read_sections.specs.Refusals.{first_refusal, sub_refusal}
-use Rattle.read_sections.proofs.Subs.{sub-short, sub-unknown, sub_known, at_here}
+use Rattle.read_sections.proofs.Subs.{sub_short, sub_unknown, sub_known, at_here}
 use Rattle.read_rules.specs.Loops.{OfRule, Marked}
 use Rattle.read_rules.proofs.Turns.{tag_five, tag_past}
 use Rattle.read_rules.proofs.subsections.rule_sub.Statement.{statement}
@@ -35,20 +35,20 @@ pub rule-sub-spec : {M : Type 1} → statement M
 rule-sub-spec =
     tie.close
     (tie.spec
-    (λ c x before marks. sub-short x rule before _ _ c.if1.true)
+    (λ c x before marks. sub_short x rule before _ _ c.if1.true)
     (λ c κs. search rules)
-    (λ c x before marks. sub-unknown x rule before _ _ c.before.before.if1.false (ap (subsection_kind rule) (tag_read c.before ∙ c.if2.true)))
-    (λ c x before marks. sub-unknown x rule before _ _ c.before.before.before.if1.false (ap (subsection_kind rule) (tag_read c.before.before) ∙ tag_past _ c.if3.true))
+    (λ c x before marks. sub_unknown x rule before _ _ c.before.before.if1.false (ap (subsection_kind rule) (tag_read c.before ∙ c.if2.true)))
+    (λ c x before marks. sub_unknown x rule before _ _ c.before.before.before.if1.false (ap (subsection_kind rule) (tag_read c.before.before) ∙ tag_past _ c.if3.true))
     (λ c. search rules)
     (λ c. search rules)
     (λ c κs. search rules)
     (λ c κs. search rules)
     (λ c κs. search rules)
     (λ c κs. search rules)
-    (λ c x. known c.before.before transportVariant x refl c.before.match.keys1 (c.variant-at.ensures x))
-    (λ c x. ⊎_elim (λ e. known c.before.before transportRule x refl e (c.reference-at.ensures x)) (λ e. known c.before.before sourceRule x refl e (c.reference-at.ensures x)) c.before.match.keys2)
-    (λ c x. known c.before.before exportParameters x refl c.before.match.keys3 (c.export_at.ensures x))
+    (λ c x. known c.before.before transport_variant x refl c.before.match.keys1 (c.variant-at.ensures x))
+    (λ c x. ⊎_elim (λ e. known c.before.before transport_rule x refl e (c.reference-at.ensures x)) (λ e. known c.before.before source_rule x refl e (c.reference-at.ensures x)) c.before.match.keys2)
+    (λ c x. known c.before.before export_parameters x refl c.before.match.keys3 (c.export_at.ensures x))
     (λ c x.
     let other = c.before.match.rest in
     let tag = tag_five _ c.before.before.before.before.if2.false c.before.before.before.if3.false other.0.0.1 other.0.1 other.1 in
-    known c.before.before tokenParameters x refl tag (c.token-at.ensures x)))
+    known c.before.before token_parameters x refl tag (c.token-at.ensures x)))

@@ -6,14 +6,14 @@ use native.Mathlib.Omega.{arith}
 use lib.ListN.{drop}
 use borrow.Author.Tests.{not-true, not-false}
 use borrow.Author.Rules.{rules}
-use Rattle.format.specs.Parts.{rule, exportParameters, tokenParameters}
+use Rattle.format.specs.Parts.{rule, export_parameters, token_parameters}
 use Rattle.format.specs.Bytes.{number, bytes_at}
 use Rattle.format.specs.Rules.{mask_covers}
 use Rattle.read_sections.specs.Refusals.{sub_refusal, section_rows}
-use Rattle.read_sections.proofs.Subs.{refused_told, refused_same, refused_then, loop-stops, loop-room}
+use Rattle.read_sections.proofs.Subs.{refused_told, refused_same, refused_then, loop_stops, loop_room}
 use Rattle.read_sections.proofs.Heads.{section_rest_is}
 use Rattle.read_rules.specs.Loops.{RuleRead}
-use Rattle.read_rules.proofs.Ends.{ends-masked, ends-missing, ends_there}
+use Rattle.read_rules.proofs.Ends.{ends_masked, ends_missing, ends_there}
 use Rattle.read_rules.proofs.Turns.{rule_start, tag_six, turn_on}
 use Rattle.read_rules.proofs.Places.{place_small, once_has}
 use Rattle.read_rules.proofs.subsections.rule_subs.Statement.{statement}
@@ -35,7 +35,7 @@ room : (c : tie.Else1 invariant-loop decreases-loop) → let b = c.before.before
     (4 ≤ number (bytes_at b.args.s.now (q + 2) 2)) × (number (bytes_at b.args.s.now (q + 2) 2) ≤ b.args.e - q)
 room c =
     let b = c.before.before.before.before.before.before in
-    loop-room b.args.s.now false rule c.before.before.before.before.loop.invariant.done c.before.before.before.before.loop.q b.args.e c.before.before.before.loop-test.true (told c.before false) c.if1.false
+    loop_room b.args.s.now false rule c.before.before.before.before.loop.invariant.done c.before.before.before.before.loop.q b.args.e c.before.before.before.loop-test.true (told c.before false) c.if1.false
 
 -- its tag is one of the five
 small : (c : tie.After-two invariant-loop decreases-loop) → c.two.result < 0x0006
@@ -47,7 +47,7 @@ small c =
 masked : (c : tie.After-mask-covers invariant-loop decreases-loop) → c.mask-covers.result ≡ mask_covers c.before.before.loop.invariant.done
 masked c =
     let w = c.before.before.loop.invariant in
-    c.mask-covers.ensures w.done (w.once exportParameters refl).parts (w.once tokenParameters refl).parts
+    c.mask-covers.ensures w.done (w.once export_parameters refl).parts (w.once token_parameters refl).parts
 
 pub rule-subs-spec : {M : Type 1} → statement M
 rule-subs-spec =
@@ -66,7 +66,7 @@ rule-subs-spec =
     c.refused.ensures
     ∙ refused_told section_rows
     (refused_same (section_rest_is b.args.full x rule b.args.s.now b.args.p b.args.e b.requires.0 b.requires.3)
-    (refused_then _ (refused_same (sym (w.same x)) (loop-stops b.args.s.now x rule w.done c.before.before.before.before.before.loop.q b.args.e c.before.before.before.before.loop-test.true (told c.before.before x) c.before.if1.true)))))
+    (refused_then _ (refused_same (sym (w.same x)) (loop_stops b.args.s.now x rule w.done c.before.before.before.before.before.loop.q b.args.e c.before.before.before.before.loop-test.true (told c.before.before x) c.before.if1.true)))))
     (λ c κs. let r = room c in omega (arith, r))
     (λ c. let g = small c in omega arith)
     (λ c. let g = small c in omega arith)
@@ -78,21 +78,21 @@ rule-subs-spec =
     (λ c. turn_on c.before.before.before.before.before.before.loop.invariant c.before.before.before.before.before.loop-test.true c.before.before.before.before.before.before.before.before.requires.1 (told c.before.before.before) c.before.before.if1.false c.two2.ensures.0 c.before.two.ensures.0)
     (λ c. search rules)
     (λ c. search rules)
-    (λ c κs. let w = c.before.loop.invariant in (search rules, (w.once exportParameters refl).within, (w.once tokenParameters refl).within))
-    (λ c κs. let i = place_small _ tokenParameters _ (c.before.before.before.loop.invariant.once tokenParameters refl).within in omega arith)
+    (λ c κs. let w = c.before.loop.invariant in (search rules, (w.once export_parameters refl).within, (w.once token_parameters refl).within))
+    (λ c κs. let i = place_small _ token_parameters _ (c.before.before.before.loop.invariant.once token_parameters refl).within in omega arith)
     (λ c x.
     let b = c.before.before.before.before.before.before in
     c.refused2.ensures
-    ∙ ends-masked b.args.full x c.before.before.before.before.loop.invariant c.before.before.before.loop-test.false b.requires.0 b.requires.3 (sym (masked c.before.before) ∙ not-true _ c.before.if2.true))
+    ∙ ends_masked b.args.full x c.before.before.before.before.loop.invariant c.before.before.before.loop-test.false b.requires.0 b.requires.3 (sym (masked c.before.before) ∙ not-true _ c.before.if2.true))
     (λ c κs. omega (arith, c.before.before.before.before.before.requires))
     (λ c. search rules)
     (λ c x.
     let b = c.before.before.before.before.before.before.before in
     let w = c.before.before.before.before.before.loop.invariant in
-    ends-missing b.args.full x w c.before.before.before.before.loop-test.false b.requires.0 b.requires.3 (sym (masked c.before.before.before) ∙ not-false _ c.before.before.if2.false)
-    (sym (c.before.has-required.ensures w.done (once_has (w.once exportParameters refl))) ∙ not-true _ c.if3.true))
+    ends_missing b.args.full x w c.before.before.before.before.loop-test.false b.requires.0 b.requires.3 (sym (masked c.before.before.before) ∙ not-false _ c.before.before.if2.false)
+    (sym (c.before.has-required.ensures w.done (once_has (w.once export_parameters refl))) ∙ not-true _ c.if3.true))
     (λ c x.
     let b = c.before.before.before.before.before.before.before in
     let w = c.before.before.before.before.before.loop.invariant in
     ends_there b.args.full x w c.before.before.before.before.loop-test.false b.requires.0 b.requires.3 (sym (masked c.before.before.before) ∙ not-false _ c.before.before.if2.false)
-    (sym (c.before.has-required.ensures w.done (once_has (w.once exportParameters refl))) ∙ not-false _ c.if3.false)))
+    (sym (c.before.has-required.ensures w.done (once_has (w.once export_parameters refl))) ∙ not-false _ c.if3.false)))

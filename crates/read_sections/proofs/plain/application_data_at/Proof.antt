@@ -6,7 +6,7 @@ use native.Mathlib.Omega.{arith}
 use lib.ListN.{length, drop}
 use borrow.Author.Rules.{rules}
 use borrow.Author.Tests.{eq-eqb, ne_eqb}
-use Rattle.format.specs.Parts.{applicationData}
+use Rattle.format.specs.Parts.{application_data}
 use Rattle.format.specs.Reading.{stated, made_length, section_checks}
 use Rattle.read_sections.proofs.Laws.{Left, passed, failed, none_left, section_head_is, head_room, number_at}
 use Rattle.read_sections.proofs.plain.application_data_at.Statement.{statement}
@@ -14,7 +14,7 @@ use Rattle.read_sections.proofs.plain.application_data_at.Tie as tie
 
 -- the first k tests of the section have passed
 abbrev Past : ℕ → tie.Start → Type 0
-Past k c = (x repeated : Bool) → let cs = section_checks x applicationData c.args.seen repeated (drop c.args.p c.args.s.now) in Left cs (drop k cs)
+Past k c = (x repeated : Bool) → let cs = section_checks x application_data c.args.seen repeated (drop c.args.p c.args.s.now) in Left cs (drop k cs)
 
 -- after the head its six bytes are there
 room : (c : tie.Else1) → c.before.before.before.args.p + 6 ≤ length c.before.before.before.args.s.now
@@ -26,7 +26,7 @@ past-1 : (c : tie.Else1) → Past 3 c.before.before.before
 past-1 c x repeated = (section_head_is 6 _ _ _ c.before.section_head_is.ensures).left c.if1.false
 
 -- the length that its data make, and the one that it states
-made : (c : tie.After-two2) → 6 + c.before.two.result ≡ made_length applicationData (drop c.before.before.before.before.before.args.p c.before.before.before.before.before.args.s.now)
+made : (c : tie.After-two2) → 6 + c.before.two.result ≡ made_length application_data (drop c.before.before.before.before.before.args.p c.before.before.before.before.before.args.s.now)
 made c = ap (λ (n : ℕ). 6 + n) (number_at _ _ 4 2 c.before.two.ensures.0)
 
 states : (c : tie.After-two2) → c.two2.result ≡ stated (drop c.before.before.before.before.before.args.p c.before.before.before.before.before.args.s.now)

@@ -8,11 +8,11 @@ use lib.ListN.{length, drop}
 use borrow.Author.Rules.{rules}
 use borrow.Author.Tests.{eq-eqb, ne_eqb, not-true, not-false}
 use Rattle.format.specs.Bytes.{number, bytes_at}
-use Rattle.format.specs.Parts.{publicKey}
+use Rattle.format.specs.Parts.{public_key}
 use Rattle.format.specs.Forms.{fewest_bytes, modulus_form}
 use Rattle.format.specs.Rules.{checks, modulus_bits_allowed}
 use Rattle.format.specs.Reading.{Test, located, part_slots}
-use Rattle.read_fields.proofs.Sizes.{bytes_of, modulus-first}
+use Rattle.read_fields.proofs.Sizes.{bytes_of, modulus_first}
 use Rattle.read_sections.specs.Refusals.{coded}
 use Rattle.read_sections.proofs.Laws.{Left, all_left, passed, failed, none_left}
 use Rattle.read_sections.proofs.KeyLaws.{between_yes, between_low, between_high, flag_yes, flag_not}
@@ -21,7 +21,7 @@ use Rattle.read_sections.proofs.public_key.key_fields.Tie as tie
 
 -- the rules, of fields whose numbers are in b and f and whose lengths stand in r
 abbrev Tests : tie.Start → List ℕ → List ℕ → List ℕ → List Test
-Tests c r b f = located (part_slots publicKey r) (checks false publicKey (b ∷ c.args.exponent.now ∷ c.args.modulus.now ∷ f ∷ []))
+Tests c r b f = located (part_slots public_key r) (checks false public_key (b ∷ c.args.exponent.now ∷ c.args.modulus.now ∷ f ∷ []))
 
 -- the first k of them are kept
 abbrev Past : ℕ → tie.Start → Type 0
@@ -79,7 +79,7 @@ key-fields-spec =
     let m = c.before.before.before.before.before.before.before.before.before.args.modulus.now in
     let h = c.before.before.before.before.if3.false in (
       omega (arith, c.before.before.before.before.before.before.if1.false),
-      modulus-first m (bytes_of m (λ k. (c.before.before.before.before.before.before.before.shared-slice-known2.given k).fits)) c.before.before.before.before.before.before.before.before.before.args.bits (omega arith) c.before.before.if5.false
+      modulus_first m (bytes_of m (λ k. (c.before.before.before.before.before.before.before.shared-slice-known2.given k).fits)) c.before.before.before.before.before.before.before.before.before.args.bits (omega arith) c.before.before.if5.false
           (sym c.before.modulus-form.ensures ∙ not-false _ c.if6.false),
     ))
     (λ c r b f x y q g. failed (past-6 c.before.before r b f q) (sym c.before.exponent-form.ensures ∙ not-true _ c.if7.true))

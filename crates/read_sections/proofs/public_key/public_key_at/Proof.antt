@@ -7,18 +7,18 @@ use native.Mathlib.Omega.{arith}
 use lib.ListN.{length, drop}
 use borrow.Author.Rules.{rules}
 use Rattle.format.specs.Bytes.{number, bytes_at}
-use Rattle.format.specs.Parts.{publicKey}
+use Rattle.format.specs.Parts.{public_key}
 use Rattle.format.specs.Rules.{checks}
 use Rattle.format.specs.Reading.{stated, part_in, part_slots, located, section_checks}
 use Rattle.read_sections.specs.Refusals.{first_refusal}
-use Rattle.read_sections.proofs.Laws.{Left, passed, failed, section_head_is, head_room, pass_last, zero-yes, zero-not, number_at}
-use Rattle.read_sections.proofs.KeyLaws.{made-yes, made-not, exponent-at, modulus-at, flags-at, exponent-length, modulus-length}
+use Rattle.read_sections.proofs.Laws.{Left, passed, failed, section_head_is, head_room, pass_last, zero_yes, zero_not, number_at}
+use Rattle.read_sections.proofs.KeyLaws.{made_yes, made_not, exponent_at_is, modulus_at_is, flags_at_is, exponent_length_is, modulus_length}
 use Rattle.read_sections.proofs.public_key.public_key_at.Statement.{statement}
 use Rattle.read_sections.proofs.public_key.public_key_at.Tie as tie
 
 -- the first k tests of the section have passed
 abbrev Past : ℕ → tie.Start → Type 0
-Past k c = (x repeated : Bool) → let cs = section_checks x publicKey c.args.seen repeated (drop c.args.p c.args.s.now) in Left cs (drop k cs)
+Past k c = (x repeated : Bool) → let cs = section_checks x public_key c.args.seen repeated (drop c.args.p c.args.s.now) in Left cs (drop k cs)
 
 -- after the head its 16 bytes are there, and all that it states
 room : (c : tie.Else1) → (16 ≤ stated (drop c.before.before.before.args.p c.before.before.before.args.s.now)) × (c.before.before.before.args.p + stated (drop c.before.before.before.args.p c.before.before.before.args.s.now) ≤ length c.before.before.before.args.s.now)
@@ -39,10 +39,10 @@ past-1 c x repeated = (section_head_is 16 _ _ _ c.before.section_head_is.ensures
 
 past-2 : (c : tie.Else2) → Past 4 c.before.before.before.before.before.before.before
 past-2 c x repeated =
-    passed (past-1 c.before.before.before.before x repeated) (made-yes _ _ _ _ c.before.before.before.two.ensures.0 c.before.before.two2.ensures.0 _ c.before.two3.ensures.0 c.if2.false)
+    passed (past-1 c.before.before.before.before x repeated) (made_yes _ _ _ _ c.before.before.before.two.ensures.0 c.before.before.two2.ensures.0 _ c.before.two3.ensures.0 c.if2.false)
 
 past-3 : (c : tie.Else3) → Past 5 c.before.before.before.before.before.before.before.before.before
-past-3 c x repeated = passed (past-2 c.before.before x repeated) (zero-yes _ _ 4 2 c.before.two4.ensures.0 c.if3.false)
+past-3 c x repeated = passed (past-2 c.before.before x repeated) (zero_yes _ _ 4 2 c.before.two4.ensures.0 c.if3.false)
 
 -- the rules on the fields are left, and they are what `key_fields` tested
 last : tie.Need-returns-4
@@ -55,12 +55,12 @@ last c x repeated =
     let ey = c.before.before.before.before.before.before.before.before.before.two2.ensures.0 in
     let m = whole c.before.before.before.before.before.before.before in
     (past-3 c.before.before.before.before.before x repeated).same _
-    (pass_last (located (part_slots publicKey r) (checks x publicKey (part_in publicKey r).fields)) _ refl
+    (pass_last (located (part_slots public_key r) (checks x public_key (part_in public_key r).fields)) _ refl
     (c.key-fields.ensures r (bytes_at r 8 2) (bytes_at r (12 + number (bytes_at r 6 2) + number (bytes_at r 10 2)) 4)
-    (exponent-length s p _ _ ex ey (omega arith)) (modulus-length s p _ _ ex ey (omega arith))
-    (number_at s p 8 2 c.before.before.before.before.two5.ensures.0) (flags-at s p _ _ ex ey c.before.before.before.four.ensures)
-    ∙ ap₂ (λ (e m : List ℕ). first_refusal (located (part_slots publicKey r) (checks false publicKey (bytes_at r 8 2 ∷ e ∷ m ∷ bytes_at r (12 + number (bytes_at r 6 2) + number (bytes_at r 10 2)) 4 ∷ []))))
-    (exponent-at s p _ _ ex ey) (modulus-at s p _ _ ex ey)))
+    (exponent_length_is s p _ _ ex ey (omega arith)) (modulus_length s p _ _ ex ey (omega arith))
+    (number_at s p 8 2 c.before.before.before.before.two5.ensures.0) (flags_at_is s p _ _ ex ey c.before.before.before.four.ensures)
+    ∙ ap₂ (λ (e m : List ℕ). first_refusal (located (part_slots public_key r) (checks false public_key (bytes_at r 8 2 ∷ e ∷ m ∷ bytes_at r (12 + number (bytes_at r 6 2) + number (bytes_at r 10 2)) 4 ∷ []))))
+    (exponent_at_is s p _ _ ex ey) (modulus_at_is s p _ _ ex ey)))
 
 pub public-key-at-spec : {M : Type 1} → statement M
 public-key-at-spec =
@@ -77,10 +77,10 @@ public-key-at-spec =
     (λ c. search rules)
     (λ c κs. search rules)
     (λ c x repeated.
-    failed (past-1 c.before.before.before.before x repeated) (made-not _ _ _ _ c.before.before.before.two.ensures.0 c.before.before.two2.ensures.0 _ c.before.two3.ensures.0 c.if2.true))
+    failed (past-1 c.before.before.before.before x repeated) (made_not _ _ _ _ c.before.before.before.two.ensures.0 c.before.before.two2.ensures.0 _ c.before.two3.ensures.0 c.if2.true))
     (λ c. search rules)
     (λ c κs. let m = room c.before.before.before.before in omega (arith, m))
-    (λ c x repeated. failed (past-2 c.before.before x repeated) (zero-not _ _ 4 2 c.before.two4.ensures.0 c.if3.true))
+    (λ c x repeated. failed (past-2 c.before.before x repeated) (zero_not _ _ 4 2 c.before.two4.ensures.0 c.if3.true))
     (λ c. search rules)
     (λ c. search rules)
     (λ c. search rules)

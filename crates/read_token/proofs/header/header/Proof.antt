@@ -7,7 +7,7 @@ use borrow.Author.Tests.{le-leb, lt-leb, not-true, not-false}
 use borrow.Author.Rules.{rules}
 use Rattle.format.specs.Parts.{known_id}
 use Rattle.format.specs.Reading.{id_of, header_checks}
-use Rattle.read_sections.proofs.Laws.{Left, all_left, passed, failed, none_left, zero-yes, zero-not, byte_number}
+use Rattle.read_sections.proofs.Laws.{Left, all_left, passed, failed, none_left, zero_yes, zero_not, byte_number}
 use Rattle.read_token.proofs.Headers.{id_first}
 use Rattle.read_token.proofs.header.header.Statement.{statement}
 use Rattle.read_token.proofs.header.header.Tie as tie
@@ -27,7 +27,7 @@ past-2 c = passed (past-1 c.before.before.before) (known c.before ∙ not-false 
 
 past-3 : (c : tie.Else3) → Past 3 c.before.before.before.before.before.before.before
 past-3 c =
-    passed (past-2 c.before.before) (zero-yes c.before.before.before.before.before.before.before.args.s.now 0 1 1 (byte_number c.before.before.before.before.before.before.before.args.s.now 1 (omega (arith, c.before.before.before.before.before.if1.false))) c.if3.false)
+    passed (past-2 c.before.before) (zero_yes c.before.before.before.before.before.before.before.args.s.now 0 1 1 (byte_number c.before.before.before.before.before.before.before.args.s.now 1 (omega (arith, c.before.before.before.before.before.if1.false))) c.if3.false)
 
 past-4 : (c : tie.Else4) → Past 4 c.before.before.before.before.before.before.before.before.before
 past-4 c = passed (past-3 c.before.before) (sym c.before.length-allowed.ensures ∙ not-false _ c.if4.false)
@@ -41,9 +41,9 @@ header-spec =
     (λ c κs. search rules)
     (λ c. failed (past-1 c.before.before.before) (known c.before ∙ not-true _ c.if2.true))
     (λ c. search rules)
-    (λ c. failed (past-2 c.before.before) (zero-not c.before.before.before.before.before.before.before.args.s.now 0 1 1 (byte_number c.before.before.before.before.before.before.before.args.s.now 1 (omega (arith, c.before.before.before.before.before.if1.false))) c.if3.true))
+    (λ c. failed (past-2 c.before.before) (zero_not c.before.before.before.before.before.before.before.args.s.now 0 1 1 (byte_number c.before.before.before.before.before.before.before.args.s.now 1 (omega (arith, c.before.before.before.before.before.if1.false))) c.if3.true))
     (λ c κs. search rules)
     (λ c. failed (past-3 c.before.before) (sym c.before.length-allowed.ensures ∙ not-true _ c.if4.true))
     (λ c κs. search rules)
-    (λ c. failed (past-4 c.before.before) (zero-not c.before.before.before.before.before.before.before.before.before.before.before.args.s.now 0 4 4 c.before.four.ensures c.if5.true))
-    (λ c. none_left (passed (past-4 c.before.before) (zero-yes c.before.before.before.before.before.before.before.before.before.before.before.args.s.now 0 4 4 c.before.four.ensures c.if5.false))))
+    (λ c. failed (past-4 c.before.before) (zero_not c.before.before.before.before.before.before.before.before.before.before.before.args.s.now 0 4 4 c.before.four.ensures c.if5.true))
+    (λ c. none_left (passed (past-4 c.before.before) (zero_yes c.before.before.before.before.before.before.before.before.before.before.before.args.s.now 0 4 4 c.before.four.ensures c.if5.false))))

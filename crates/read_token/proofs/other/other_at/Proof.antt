@@ -2,7 +2,7 @@
 use mathlib.Core.Path.{refl, sym, ap, ◌∙◌}
 use native.Mathlib.Omega.{arith}
 use lib.ListN.{get_or}
-use Rattle.format.specs.Parts.{publicKey, name, information, applicationData}
+use Rattle.format.specs.Parts.{public_key, name, information, application_data}
 use Rattle.format.specs.Reading.{section_kind}
 use Rattle.read_sections.proofs.Laws.{byte_number}
 use Rattle.read_sections.proofs.Subs.{at_here}
@@ -57,8 +57,8 @@ returns c =
     let s = c.before.before.before.before.before.before.args.s.now in
     let p = c.before.before.before.before.before.before.args.p in
     c.alone.ensures
-    ∙ alone_told c.before.before.before.before.before.before.args.full c.before.before.before.before.before.before.args.external publicKey before s p _ c.before.before.before.before.before.before.requires.0
-    (kind_at publicKey s p c.before.before.before.before.before.before.requires.0 refl c.before.before.before.match.keys1) (m publicKey refl refl) c.before.public-key-at.ensures refl refl
+    ∙ alone_told c.before.before.before.before.before.before.args.full c.before.before.before.before.before.before.args.external public_key before s p _ c.before.before.before.before.before.before.requires.0
+    (kind_at public_key s p c.before.before.before.before.before.before.requires.0 refl c.before.before.before.match.keys1) (m public_key refl refl) c.before.public-key-at.ensures refl refl
 
 returns-2 : tie.Need-returns-2
 returns-2 c =
@@ -79,8 +79,8 @@ returns-4 c =
     let s = c.before.before.before.before.before.before.args.s.now in
     let p = c.before.before.before.before.before.before.args.p in
     c.alone3.ensures
-    ∙ alone_told c.before.before.before.before.before.before.args.full c.before.before.before.before.before.before.args.external applicationData before s p _ c.before.before.before.before.before.before.requires.0
-    (kind_at applicationData s p c.before.before.before.before.before.before.requires.0 refl c.before.before.before.match.keys4) (m applicationData refl refl) c.before.application-data-at.ensures refl refl
+    ∙ alone_told c.before.before.before.before.before.before.args.full c.before.before.before.before.before.before.args.external application_data before s p _ c.before.before.before.before.before.before.requires.0
+    (kind_at application_data s p c.before.before.before.before.before.before.requires.0 refl c.before.before.before.match.keys4) (m application_data refl refl) c.before.application-data-at.ensures refl refl
 
 returns-5 : tie.Need-returns-5
 returns-5 c =

@@ -10,7 +10,7 @@ use Rattle.format.specs.Reading.{stated}
 use Rattle.read_sections.proofs.Laws.{number_at, byte_number}
 use Rattle.read_rules.proofs.Ids.{held_none, held_room}
 use Rattle.read_token.specs.Progress.{SectionsRead, Running}
-use Rattle.read_token.proofs.Rules.{run_short, run-refused, run-found, run_more, later}
+use Rattle.read_token.proofs.Rules.{run_short, run_refused, run_found, run_more, later}
 use Rattle.read_token.proofs.runs.rules.Statement.{statement}
 use Rattle.read_token.proofs.runs.rules.Tie as tie
 
@@ -78,7 +78,7 @@ returns-3 : tie.Need-returns-3 invariant-loop decreases-loop
 returns-3 c =
     λ x seen w.
     let v = c.before.before.before.before.before.before.before.before.before.before.loop.invariant.1 x seen w in
-    run-refused v c.before.before.before.before.before.before.before.before.before.loop-test.true (c.before.before.before.rule-at.ensures x v.read.before v.held) c.before.a.given.1
+    run_refused v c.before.before.before.before.before.before.before.before.before.loop-test.true (c.before.before.before.rule-at.ensures x v.read.before v.held) c.before.a.given.1
 
 enum-known-a-2 : tie.Need-enum-known-a-2 invariant-loop decreases-loop
 enum-known-a-2 c = search rules
@@ -90,7 +90,7 @@ add-n c =
     let short = c.before.before.before.before.before.before.before.before.before.before.before.before.before.before.before.requires.1 in
     let ends = v.read.ends in
     let few = v.read.few in
-    let f = run-found v c.before.before.before.before.before.before.before.before.before.loop-test.true (c.before.before.before.rule-at.ensures d.0 v.read.before v.held) c.before.a2.given.1 in
+    let f = run_found v c.before.before.before.before.before.before.before.before.before.loop-test.true (c.before.before.before.rule-at.ensures d.0 v.read.before v.held) c.before.a2.given.1 in
     let four = f.four in
     let inside = f.inside in
     let rows = f.few in
@@ -103,7 +103,7 @@ add-two c =
     let short = c.before.before.before.before.before.before.before.before.before.before.before.before.before.before.before.requires.1 in
     let ends = v.read.ends in
     let few = v.read.few in
-    let f = run-found v c.before.before.before.before.before.before.before.before.before.loop-test.true (c.before.before.before.rule-at.ensures d.0 v.read.before v.held) c.before.a2.given.1 in
+    let f = run_found v c.before.before.before.before.before.before.before.before.before.loop-test.true (c.before.before.before.rule-at.ensures d.0 v.read.before v.held) c.before.a2.given.1 in
     let four = f.four in
     let inside = f.inside in
     let rows = f.few in
@@ -116,7 +116,7 @@ two-requires c κs =
     let short = c.before.before.before.before.before.before.before.before.before.before.before.before.before.before.before.requires.1 in
     let ends = v.read.ends in
     let few = v.read.few in
-    let f = run-found v c.before.before.before.before.before.before.before.before.before.loop-test.true (c.before.before.before.rule-at.ensures d.0 v.read.before v.held) c.before.a2.given.1 in
+    let f = run_found v c.before.before.before.before.before.before.before.before.before.loop-test.true (c.before.before.before.rule-at.ensures d.0 v.read.before v.held) c.before.a2.given.1 in
     let four = f.four in
     let inside = f.inside in
     let rows = f.few in
@@ -129,7 +129,7 @@ add-p c =
     let short = c.before.before.before.before.before.before.before.before.before.before.before.before.before.before.before.before.requires.1 in
     let ends = v.read.ends in
     let few = v.read.few in
-    let f = run-found v c.before.before.before.before.before.before.before.before.before.before.loop-test.true (c.before.before.before.before.rule-at.ensures d.0 v.read.before v.held) c.before.before.a2.given.1 in
+    let f = run_found v c.before.before.before.before.before.before.before.before.before.before.loop-test.true (c.before.before.before.before.rule-at.ensures d.0 v.read.before v.held) c.before.before.a2.given.1 in
     let four = f.four in
     let inside = f.inside in
     let rows = f.few in
@@ -143,7 +143,7 @@ loop-less c =
     let short = c.before.before.before.before.before.before.before.before.before.before.before.before.before.before.before.before.requires.1 in
     let ends = v.read.ends in
     let few = v.read.few in
-    let f = run-found v c.before.before.before.before.before.before.before.before.before.before.loop-test.true (c.before.before.before.before.rule-at.ensures d.0 v.read.before v.held) c.before.before.a2.given.1 in
+    let f = run_found v c.before.before.before.before.before.before.before.before.before.before.loop-test.true (c.before.before.before.before.rule-at.ensures d.0 v.read.before v.held) c.before.before.a2.given.1 in
     let four = f.four in
     let inside = f.inside in
     let rows = f.few in

@@ -8,7 +8,7 @@ use borrow.Author.Rules.{rules}
 use Rattle.format.specs.Reading.{stated}
 use Rattle.read_sections.proofs.Laws.{number_at, byte_number}
 use Rattle.read_token.proofs.Steps.{read_none, read_whole, read_missing}
-use Rattle.read_token.proofs.Sections.{Turn, turn-short, turn-refused, turn-found, turn-id, turn_more, turn-ran, ran_refused}
+use Rattle.read_token.proofs.Sections.{Turn, turn_short, turn_refused, turn_found, turn_id, turn_more, turn_ran, ran_refused}
 use Rattle.read_token.proofs.whole.sections_of.Statement.{statement}
 use Rattle.read_token.proofs.whole.sections_of.Tie as tie
 
@@ -38,7 +38,7 @@ cast-t20 c =
     omega arith
 
 returns : tie.Need-returns invariant-loop decreases-loop
-returns c = turn-short c.before.before.loop.invariant c.before.loop-test.true c.if1.true
+returns c = turn_short c.before.before.loop.invariant c.before.loop-test.true c.if1.true
 
 shared-slice-read-id : tie.Need-shared-slice-read-id invariant-loop decreases-loop
 shared-slice-read-id c = c.before.before.loop-test.true
@@ -64,12 +64,12 @@ enum-known-run-2 c = search rules
 
 loop-less : tie.Need-loop-smaller invariant-loop decreases-loop
 loop-less c =
-    let r = turn-ran c.before.before.before.before.before.before.before.before.loop.invariant c.before.before.before.before.before.before.before.loop-test.true (c.before.before.before.rules.ensures _ _ c.before.before.before.before.before.before.before.before.loop.invariant.read) c.before.run2.given.1 in
+    let r = turn_ran c.before.before.before.before.before.before.before.before.loop.invariant c.before.before.before.before.before.before.before.loop-test.true (c.before.before.before.rules.ensures _ _ c.before.before.before.before.before.before.before.before.loop.invariant.read) c.before.run2.given.1 in
     omega (arith, r.1, c.before.before.before.before.before.before.before.loop-test.true)
 
 loop-again : tie.Need-loop-preserved invariant-loop decreases-loop
 loop-again c =
-    (turn-ran c.before.before.before.before.before.before.before.before.loop.invariant c.before.before.before.before.before.before.before.loop-test.true (c.before.before.before.rules.ensures _ _ c.before.before.before.before.before.before.before.before.loop.invariant.read) c.before.run2.given.1).0
+    (turn_ran c.before.before.before.before.before.before.before.before.loop.invariant c.before.before.before.before.before.before.before.loop-test.true (c.before.before.before.rules.ensures _ _ c.before.before.before.before.before.before.before.before.loop.invariant.read) c.before.run2.given.1).0
 
 other-at-requires : tie.Need-other-at-requires invariant-loop decreases-loop
 other-at-requires c κs =
@@ -85,7 +85,7 @@ enum-known-a c = search rules
 
 returns-3 : tie.Need-returns-3 invariant-loop decreases-loop
 returns-3 c =
-    turn-refused c.before.before.before.before.before.before.before.before.before.loop.invariant c.before.before.before.before.before.before.before.before.loop-test.true c.before.before.before.other_at.ensures c.before.a.given.1
+    turn_refused c.before.before.before.before.before.before.before.before.before.loop.invariant c.before.before.before.before.before.before.before.before.loop-test.true c.before.before.before.other_at.ensures c.before.a.given.1
 
 enum-known-a-2 : tie.Need-enum-known-a-2 invariant-loop decreases-loop
 enum-known-a-2 c = search rules
@@ -96,7 +96,7 @@ add-rows c =
     let short = c.before.before.before.before.before.before.before.before.before.before.before.requires.1 in
     let ends = v.read.ends in
     let few = v.read.few in
-    let f = turn-found v c.before.before.before.before.before.before.before.before.loop-test.true c.before.before.before.other_at.ensures c.before.a2.given.1 in
+    let f = turn_found v c.before.before.before.before.before.before.before.before.loop-test.true c.before.before.before.other_at.ensures c.before.a2.given.1 in
     let four = f.four in
     let inside = f.inside in
     let more = f.few in
@@ -111,11 +111,11 @@ array-write-seen c =
     let short = c.before.before.before.before.before.before.before.before.before.before.before.before.requires.1 in
     let ends = v.read.ends in
     let few = v.read.few in
-    let f = turn-found v c.before.before.before.before.before.before.before.before.before.loop-test.true c.before.before.before.before.other_at.ensures c.before.before.a2.given.1 in
+    let f = turn_found v c.before.before.before.before.before.before.before.before.before.loop-test.true c.before.before.before.before.other_at.ensures c.before.before.a2.given.1 in
     let four = f.four in
     let inside = f.inside in
     let more = f.few in
-    let i = turn-id v c.before.before.before.before.before.before.before.before.before.loop-test.true f in
+    let i = turn_id v c.before.before.before.before.before.before.before.before.before.loop-test.true f in
     omega (arith, c.wide.ensures.0)
 
 add-two : tie.Need-overflow-add-two invariant-loop decreases-loop
@@ -124,7 +124,7 @@ add-two c =
     let short = c.before.before.before.before.before.before.before.before.before.before.before.before.requires.1 in
     let ends = v.read.ends in
     let few = v.read.few in
-    let f = turn-found v c.before.before.before.before.before.before.before.before.before.loop-test.true c.before.before.before.before.other_at.ensures c.before.before.a2.given.1 in
+    let f = turn_found v c.before.before.before.before.before.before.before.before.before.loop-test.true c.before.before.before.before.other_at.ensures c.before.before.a2.given.1 in
     let four = f.four in
     let inside = f.inside in
     let more = f.few in
@@ -136,7 +136,7 @@ two-requires c κs =
     let short = c.before.before.before.before.before.before.before.before.before.before.before.before.requires.1 in
     let ends = v.read.ends in
     let few = v.read.few in
-    let f = turn-found v c.before.before.before.before.before.before.before.before.before.loop-test.true c.before.before.before.before.other_at.ensures c.before.before.a2.given.1 in
+    let f = turn_found v c.before.before.before.before.before.before.before.before.before.loop-test.true c.before.before.before.before.other_at.ensures c.before.before.a2.given.1 in
     let four = f.four in
     let inside = f.inside in
     let more = f.few in
@@ -148,7 +148,7 @@ add-p c =
     let short = c.before.before.before.before.before.before.before.before.before.before.before.before.before.requires.1 in
     let ends = v.read.ends in
     let few = v.read.few in
-    let f = turn-found v c.before.before.before.before.before.before.before.before.before.before.loop-test.true c.before.before.before.before.before.other_at.ensures c.before.before.before.a2.given.1 in
+    let f = turn_found v c.before.before.before.before.before.before.before.before.before.before.loop-test.true c.before.before.before.before.before.other_at.ensures c.before.before.before.a2.given.1 in
     let four = f.four in
     let inside = f.inside in
     let more = f.few in
@@ -161,7 +161,7 @@ loop-less-2 c =
     let short = c.before.before.before.before.before.before.before.before.before.before.before.before.before.requires.1 in
     let ends = v.read.ends in
     let few = v.read.few in
-    let f = turn-found v c.before.before.before.before.before.before.before.before.before.before.loop-test.true c.before.before.before.before.before.other_at.ensures c.before.before.before.a2.given.1 in
+    let f = turn_found v c.before.before.before.before.before.before.before.before.before.before.loop-test.true c.before.before.before.before.before.other_at.ensures c.before.before.before.a2.given.1 in
     let four = f.four in
     let inside = f.inside in
     let more = f.few in
@@ -175,7 +175,7 @@ loop-again-2 c =
     let short = c.before.before.before.before.before.before.before.before.before.before.before.before.before.requires.1 in
     let ends = v.read.ends in
     let few = v.read.few in
-    let f = turn-found v c.before.before.before.before.before.before.before.before.before.before.loop-test.true c.before.before.before.before.before.other_at.ensures c.before.before.before.a2.given.1 in
+    let f = turn_found v c.before.before.before.before.before.before.before.before.before.before.loop-test.true c.before.before.before.before.before.other_at.ensures c.before.before.before.a2.given.1 in
     let four = f.four in
     let inside = f.inside in
     let more = f.few in

@@ -1,6 +1,6 @@
 -- The fields that are lent are the row's views.
 use mathlib.Core.Path.{refl}
-use Rattle.format.specs.Parts.{applicationData}
+use Rattle.format.specs.Parts.{application_data}
 use Rattle.rebuild_parts.proofs.Laws.{and_fields, same_added}
 use borrow.Author.Rules.{rules}
 use Rattle.rebuild_parts.proofs.sections.application_data.Statement.{statement}
@@ -17,7 +17,7 @@ same_length c = search rules
 
 returns : tie.Need-returns
 returns c =
-    same_added _ applicationData _ _ c.before.before.application-data.ensures
+    same_added _ application_data _ _ c.before.before.application-data.ensures
     (and_fields c.before.before.before.before.view.ensures refl)
 
 pub application-data-spec : {M : Type 1} → statement M

@@ -1,7 +1,7 @@
 -- The fields that are lent are the row's views.
 use mathlib.Core.Path.{refl}
 use native.Mathlib.Omega.{arith}
-use Rattle.format.specs.Parts.{publicKey}
+use Rattle.format.specs.Parts.{public_key}
 use Rattle.rebuild_parts.proofs.Laws.{fitting, and_fields, same_added}
 use borrow.Author.Rules.{rules}
 use Rattle.rebuild_parts.proofs.sections.public_key.Statement.{statement}
@@ -27,7 +27,7 @@ same_length c = search rules
 
 returns : tie.Need-returns
 returns c =
-    same_added _ publicKey _ _ c.before.before.public-key.ensures
+    same_added _ public_key _ _ c.before.before.public-key.ensures
     (and_fields c.before.before.before.before.before.before.before.two-of.ensures
     (and_fields c.before.before.before.before.before.before.view.ensures
     (and_fields c.before.before.before.before.before.view2.ensures

@@ -1,7 +1,7 @@
 -- The fields that are lent are the row's views.
 use mathlib.Core.Path.{refl}
 use native.Mathlib.Omega.{arith}
-use Rattle.format.specs.Parts.{exportParameters}
+use Rattle.format.specs.Parts.{export_parameters}
 use Rattle.rebuild_parts.proofs.Laws.{fitting, and_fields, same_added}
 use borrow.Author.Rules.{rules}
 use Rattle.rebuild_parts.proofs.subsections.export_parameters.Statement.{statement}
@@ -27,7 +27,7 @@ same_length c = search rules
 
 returns : tie.Need-returns
 returns c =
-    same_added _ exportParameters _ _ c.before.before.export-parameters.ensures
+    same_added _ export_parameters _ _ c.before.before.export-parameters.ensures
     (and_fields c.before.before.before.before.before.before.before.one_of.ensures
     (and_fields c.before.before.before.before.before.before.one-of2.ensures
     (and_fields c.before.before.before.before.before.view.ensures

@@ -1,6 +1,6 @@
 -- The fields that are lent are the row's views.
 use mathlib.Core.Path.{refl}
-use Rattle.format.specs.Parts.{sourceRule}
+use Rattle.format.specs.Parts.{source_rule}
 use Rattle.rebuild_parts.proofs.Laws.{and_fields, same_added}
 use borrow.Author.Rules.{rules}
 use Rattle.rebuild_parts.proofs.subsections.source_rule.Statement.{statement}
@@ -17,7 +17,7 @@ same_length c = search rules
 
 returns : tie.Need-returns
 returns c =
-    same_added _ sourceRule _ _ c.before.before.source-rule.ensures
+    same_added _ source_rule _ _ c.before.before.source-rule.ensures
     (and_fields c.before.before.before.before.view.ensures refl)
 
 pub source-rule-spec : {M : Type 1} → statement M

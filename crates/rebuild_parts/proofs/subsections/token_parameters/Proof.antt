@@ -1,6 +1,6 @@
 -- The fields that are lent are the row's views.
 use mathlib.Core.Path.{refl}
-use Rattle.format.specs.Parts.{tokenParameters}
+use Rattle.format.specs.Parts.{token_parameters}
 use Rattle.rebuild_parts.proofs.Laws.{and_fields, same_added}
 use borrow.Author.Rules.{rules}
 use Rattle.rebuild_parts.proofs.subsections.token_parameters.Statement.{statement}
@@ -23,7 +23,7 @@ same_length c = search rules
 
 returns : tie.Need-returns
 returns c =
-    same_added _ tokenParameters _ _ c.before.before.token-parameters.ensures
+    same_added _ token_parameters _ _ c.before.before.token-parameters.ensures
     (and_fields c.before.before.before.before.before.before.view.ensures
     (and_fields c.before.before.before.before.before.view2.ensures
     (and_fields c.before.before.before.before.view3.ensures refl)))

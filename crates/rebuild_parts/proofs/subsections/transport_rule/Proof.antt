@@ -1,6 +1,6 @@
 -- The fields that are lent are the row's views.
 use mathlib.Core.Path.{refl}
-use Rattle.format.specs.Parts.{transportRule}
+use Rattle.format.specs.Parts.{transport_rule}
 use Rattle.rebuild_parts.proofs.Laws.{and_fields, same_added}
 use borrow.Author.Rules.{rules}
 use Rattle.rebuild_parts.proofs.subsections.transport_rule.Statement.{statement}
@@ -17,7 +17,7 @@ same_length c = search rules
 
 returns : tie.Need-returns
 returns c =
-    same_added _ transportRule _ _ c.before.before.transport-rule.ensures
+    same_added _ transport_rule _ _ c.before.before.transport-rule.ensures
     (and_fields c.before.before.before.before.view.ensures refl)
 
 pub transport-rule-spec : {M : Type 1} → statement M

@@ -1,6 +1,6 @@
 -- The fields that are lent are the row's views.
 use mathlib.Core.Path.{refl}
-use Rattle.format.specs.Parts.{transportVariant}
+use Rattle.format.specs.Parts.{transport_variant}
 use Rattle.rebuild_parts.proofs.Laws.{and_fields, same_added}
 use borrow.Author.Rules.{rules}
 use Rattle.rebuild_parts.proofs.subsections.transport_variant.Statement.{statement}
@@ -17,7 +17,7 @@ same_length c = search rules
 
 returns : tie.Need-returns
 returns c =
-    same_added _ transportVariant _ _ c.before.before.transport-variant.ensures
+    same_added _ transport_variant _ _ c.before.before.transport-variant.ensures
     (and_fields c.before.before.before.before.view.ensures refl)
 
 pub transport-variant-spec : {M : Type 1} → statement M
