@@ -9,20 +9,16 @@ use Rattle.format.specs.Forms.{leading, space}
 use Rattle.read_characters.specs.Classes.{space_class}
 use Rattle.read_characters.proofs.Classes.{space_class_is}
 use Rattle.read_characters.proofs.Runs.{run_passed, left_at}
-use Rattle.read_characters.proofs.place_after.Statement.{statement}
-use Rattle.read_characters.proofs.place_after.Tie as tie
+use Rattle.read_characters.proofs.place_after.Goals as goal
 
-returns : tie.Need-returns
+pub returns : goal.returns
 returns c =
-    let a = c.before.before.args in
+    let a = c.args in
     let s = a.s.now in
     let k = a.q - a.i in
     let n = leading space (drop k (bytes_at s a.i (a.e - a.i))) in
     let m : n ≡ leading space (bytes_at s a.q (a.e - a.q))
     = ap (leading space) (left_at s a.i a.e k (search rules) (search rules) (search rules)) in
-    let r : c.run-end.result ≡ a.q + leading space (bytes_at s a.q (a.e - a.q))
-    = run_passed space space_class space_class space_class_is (bytes_at s a.q (a.e - a.q)) a.q c.run-end.ensures.0 in
+    let r : c.run_end.result ≡ a.q + leading space (bytes_at s a.q (a.e - a.q))
+    = run_passed space space_class space_class space_class_is (bytes_at s a.q (a.e - a.q)) a.q c.run_end.ensures.0 in
     (omega arith, omega arith)
-
-pub place-after-spec : {M : Type 1} → statement M
-place-after-spec = tie.close (tie.spec (λ c κs. search rules) (λ c. search rules) returns)

@@ -1,0 +1,25 @@
+-- The numbers of each case.
+use mathlib.Core.Path.{sym, ap}
+use Rattle.format.specs.GivenNumbers.{step_number, step_second, row_kind, row_offset, row_length, row_owner, row_rule, next_of}
+use Rattle.trusted_block_numbers.proofs.Stops.{no_row}
+use Rattle.trusted_block_numbers.proofs.steps.give_step.Goals as goal
+
+pub returns-in_default : goal.returns-in_default
+returns-in_default c =
+    let z = no_row c.args.s c.in_default.in_default-own.keys2 in
+    (c.give_stop.ensures.0, (c.give_stop.ensures.1, z))
+
+pub returns : goal.returns
+unfolding step_number step_second row_kind row_offset row_length row_owner row_rule next_of
+returns c =
+    let e = c.in-Record.is in
+    record {
+      number = sym (ap step_number e);
+      second = sym (ap step_second e);
+      kind = sym (ap row_kind e);
+      offset = sym (ap row_offset e);
+      length = sym (ap row_length e);
+      owner = sym (ap row_owner e);
+      rule = sym (ap row_rule e);
+      next = sym (ap next_of e);
+    }
