@@ -18,7 +18,21 @@ pub loop-p-init : goal.loop-p-init
 loop-p-init c = (search rules, search rules, refl)
 
 pub loop-p-preserved : goal.loop-p-preserved
-loop-p-preserved c = let h = c.if-s-p-ne32 in ?
+loop-p-preserved c =
+    let a = c.args in
+    let l = c.loop-p in
+    let t = c.loop-p-test.true in
+    let s = a.s.now in
+    let b = get_or s l.p 0 in (
+      search rules,
+      search rules,
+      ⊎_elim
+          (λ w.
+          rw w.1 (sym (every_less space s l.p a.e t (omega arith) l.only (ne_eqb b 0x20 w.0.taken)) ∙ l.invariant.2))
+          (λ w.
+          rw w.1 (sym (every_more space s l.p a.e t (omega arith) l.only (eq-eqb b 0x20 w.0.left)) ∙ l.invariant.2))
+          c.if-s-p-ne32.branch,
+    )
 
 pub returns : goal.returns
 returns c =

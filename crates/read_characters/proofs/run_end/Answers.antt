@@ -15,7 +15,20 @@ pub loop-p-init : goal.loop-p-init
 loop-p-init c = (search rules, search rules, refl)
 
 pub returns-then-c-lo : goal.returns-then-c-lo
-returns-then-c-lo c = let h = c.then-c-lo in ?
+returns-then-c-lo c =
+    let a = c.args in
+    let l = c.loop-p in
+    let s = a.s.now in
+    let b = get_or s l.p 0 in
+    let f = of_class a.lo a.hi in
+    let r : f b ≡ false =
+    ⊎_elim (λ w. class_below a.lo a.hi b c.character-c.ensures w.taken)
+    (λ w. class_above a.lo a.hi b c.character-c.ensures w.1.taken)
+    c.then-c-lo.branch in (
+      run_stop f s l.p a.e c.loop-p-test.true (omega arith) r
+          ∙ l.invariant.2,
+      search rules,
+    )
 
 pub loop-p-preserved : goal.loop-p-preserved
 loop-p-preserved c =

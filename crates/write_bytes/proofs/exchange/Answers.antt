@@ -50,4 +50,4 @@ pub shape_of-text : goal.shape_of-text
 shape_of-text c = c.loop-i.invariant.text_long
 
 pub returns : goal.returns
-returns c = exchange_all c.loop-i.invariant (omega (arith, c.loop-i-test.false))
+returns c = let z = exchange_all c.loop-i.invariant (omega (arith, c.loop-i-test.false)) in record { line = z.0; text = z.1 }

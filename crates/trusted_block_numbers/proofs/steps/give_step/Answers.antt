@@ -2,12 +2,13 @@
 use mathlib.Core.Path.{sym, ap}
 use Rattle.format.specs.GivenNumbers.{step_number, step_second, row_kind, row_offset, row_length, row_owner, row_rule, next_of}
 use Rattle.trusted_block_numbers.proofs.Stops.{no_row}
+use borrow.Enum.Refused.{opened}
 use Rattle.trusted_block_numbers.proofs.steps.give_step.Goals as goal
 
 pub returns-in_default : goal.returns-in_default
 returns-in_default c =
-    let z = no_row c.args.s c.in_default.in_default-own.keys2 in
-    (c.give_stop.ensures.0, (c.give_stop.ensures.1, z))
+    let z = no_row c.args.s (opened c.in_default.in_default-own.keys2) in
+    (c.give_stop.ensures.number, (c.give_stop.ensures.second, z))
 
 pub returns : goal.returns
 unfolding step_number step_second row_kind row_offset row_length row_owner row_rule next_of
