@@ -97,15 +97,15 @@ first_class_is b c e =
 -- ---- classes lo to hi, as the code tests them
 
 module _ (lo hi b : ℕ) {r : ℕ} (e : r ≡ class_of b) where
-  pub class_in : lo ≤ r → ltb hi r ≡ false → of_class lo hi b ≡ true
+  pub class_in : lo ≤ r → r ≤ hi → of_class lo hi b ≡ true
   unfolding of_class
   class_in h k =
-      rw (le-leb lo (class_of b) (omega (arith, e)), le-leb (class_of b) hi (omega (arith, e, ltb-false hi r k)))
+      rw (le-leb lo (class_of b) (omega (arith, e)), le-leb (class_of b) hi (omega (arith, e, k)))
 
   pub class_below : r < lo → of_class lo hi b ≡ false
   unfolding of_class
   class_below h = rw (lt-leb lo (class_of b) (omega (arith, e)))
 
-  pub class_above : ltb hi r ≡ true → of_class lo hi b ≡ false
+  pub class_above : hi < r → of_class lo hi b ≡ false
   unfolding of_class
-  class_above k = rw (lt-leb (class_of b) hi (omega (arith, e, ltb-true hi r k))) (and-false (leb lo (class_of b)))
+  class_above k = rw (lt-leb (class_of b) hi (omega (arith, e, k))) (and-false (leb lo (class_of b)))

@@ -6,7 +6,6 @@ use Rattle.format.specs.Bytes.{every, bytes_at}
 use Rattle.format.specs.Forms.{space}
 use Rattle.read_characters.proofs.Runs.{left_at}
 use Rattle.read_characters.proofs.Templates.{body, label_told, label_end}
-use borrow.Author.Tests.{not-true, not-false}
 use Rattle.read_characters.proofs.label_form.Goals as goal
 
 pub returns-then-not-may_be_first : goal.returns-then-not-may_be_first
@@ -15,7 +14,7 @@ returns-then-not-may_be_first c =
     let k = c.character-first.ensures in
     let f = c.may_be_first in
     let b = get_or a.args.s.now a.args.i 0 in
-    sym (label_told a.args.s.now a.args.i a.requires.0 ∙ rw (← f.ensures b k, not-true f.result c.if-not-may_be_first.true))
+    sym (label_told a.args.s.now a.args.i a.requires.0 ∙ rw (← f.ensures b k, c.if-not-may_be_first.true))
 
 pub returns : goal.returns
 returns c =
@@ -30,4 +29,4 @@ returns c =
     let bs = bytes_at s i (i + 64 - i) in
     c.only_spaces.ensures
     ∙ ap (every space) (sym (left_at s i (i + 64) (body bs) (label_end s i a.requires.0 k run.0 run.1 q.0) q.1 a.requires.0))
-    ∙ sym (label_told s i a.requires.0 ∙ rw (← f.ensures b k, not-false f.result c.if-not-may_be_first.false))
+    ∙ sym (label_told s i a.requires.0 ∙ rw (← f.ensures b k, c.if-not-may_be_first.false))

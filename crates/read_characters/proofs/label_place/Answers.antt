@@ -1,7 +1,6 @@
 -- Where a label template cannot go on: its characters, found as `label_form` finds them, and the spaces behind them. Assumes
 -- nothing.
 use native.Mathlib.Omega.{arith}
-use borrow.Author.Tests.{not-true, not-false}
 use mathlib.Core.Path.{◌≡◌, sym, ap, ◌∙◌}
 use lib.ListN.{get_or, drop}
 use Prim.Native.Nat.{ℕ, ◌+◌, ◌-◌}
@@ -16,7 +15,7 @@ returns-then-not-may_be_first c =
     let k = c.character-first.ensures in
     let f = c.may_be_first in
     let b = get_or a.args.s.now a.args.i 0 in
-    (sym (place_told a.args.s.now a.args.i a.requires ∙ rw (← f.ensures b k, not-true f.result c.if-not-may_be_first.true)), omega arith)
+    (sym (place_told a.args.s.now a.args.i a.requires ∙ rw (← f.ensures b k, c.if-not-may_be_first.true)), omega arith)
 
 pub returns : goal.returns
 returns c =
@@ -32,6 +31,6 @@ returns c =
     let n : c.after_star-q.result - i ≡ body bs = omega arith in (
       c.place_after.ensures.0
           ∙ ap (λ (m : ℕ). m + leading space (drop m bs)) n
-          ∙ sym (place_told s i a.requires ∙ rw (← f.ensures b k, not-false f.result c.if-not-may_be_first.false)),
+          ∙ sym (place_told s i a.requires ∙ rw (← f.ensures b k, c.if-not-may_be_first.false)),
       omega (arith, c.place_after.ensures.1),
     )

@@ -5,7 +5,6 @@ use borrow.Author.Tests.{eq-eqb, ne_eqb}
 use lib.ListN.{get_or}
 use mathlib.Core.List.{List}
 use Prim.Native.Nat.{ℕ, ◌-◌}
-use mathlib.Core.Logic.{⊎_elim}
 use mathlib.Core.Bool.{◌&&◌, and-true}
 use mathlib.Core.Path.{refl, sym, ap, ◌∙◌}
 use Rattle.format.specs.Bytes.{every}
@@ -13,6 +12,7 @@ use Rattle.format.specs.Forms.{space}
 use Rattle.read_fields.proofs.Lists.{bytes_end}
 use Rattle.read_characters.proofs.Runs.{every_more, every_less}
 use Rattle.read_characters.proofs.only_spaces.Goals as goal
+use Rattle.read_characters.proofs.only_spaces.Goals.{then-s-p-ne32, else-s-p-ne32}
 
 pub loop-p-init : goal.loop-p-init
 loop-p-init c = (search rules, search rules, refl)
@@ -26,12 +26,10 @@ loop-p-preserved c =
     let b = get_or s l.p 0 in (
       search rules,
       search rules,
-      ⊎_elim
-          (λ w.
-          rw w.1 (sym (every_less space s l.p a.e t (omega arith) l.only (ne_eqb b 0x20 w.0.taken)) ∙ l.invariant.2))
-          (λ w.
-          rw w.1 (sym (every_more space s l.p a.e t (omega arith) l.only (eq-eqb b 0x20 w.0.left)) ∙ l.invariant.2))
-          c.if-s-p-ne32.branch,
+      elim c.if-s-p-ne32.branch [
+        | then-s-p-ne32 w ↦ rw w.only-is (sym (every_less space s l.p a.e t (omega arith) l.only (ne_eqb b 0x20 w.if-s-p-ne32.true)) ∙ l.invariant.2)
+        | else-s-p-ne32 w ↦ rw w.only-is (sym (every_more space s l.p a.e t (omega arith) l.only (eq-eqb b 0x20 w.if-s-p-ne32.false)) ∙ l.invariant.2)
+      ],
     )
 
 pub returns : goal.returns

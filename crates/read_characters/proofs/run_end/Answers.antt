@@ -22,9 +22,9 @@ returns-then-c-lo c =
     let b = get_or s l.p 0 in
     let f = of_class a.lo a.hi in
     let r : f b ≡ false =
-    ⊎_elim (λ w. class_below a.lo a.hi b c.character-c.ensures w.taken)
-    (λ w. class_above a.lo a.hi b c.character-c.ensures w.1.taken)
-    c.then-c-lo.branch in (
+    ⊎_elim (λ w. class_below a.lo a.hi b c.character-c.ensures w)
+    (λ w. class_above a.lo a.hi b c.character-c.ensures w.1)
+    c.then-c-lo.either in (
       run_stop f s l.p a.e c.loop-p-test.true (omega arith) r
           ∙ l.invariant.2,
       search rules,

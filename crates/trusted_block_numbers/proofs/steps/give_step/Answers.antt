@@ -8,7 +8,16 @@ use Rattle.trusted_block_numbers.proofs.steps.give_step.Goals as goal
 pub returns-in_default : goal.returns-in_default
 returns-in_default c =
     let z = no_row c.args.s (opened c.in_default.in_default-own.keys2) in
-    (c.give_stop.ensures.number, (c.give_stop.ensures.second, z))
+    record {
+      number = c.give_stop.ensures.number;
+      second = c.give_stop.ensures.second;
+      kind = z.0;
+      offset = z.1.0;
+      length = z.1.1.0;
+      owner = z.1.1.1.0;
+      rule = z.1.1.1.1.0;
+      next = z.1.1.1.1.1;
+    }
 
 pub returns : goal.returns
 unfolding step_number step_second row_kind row_offset row_length row_owner row_rule next_of
