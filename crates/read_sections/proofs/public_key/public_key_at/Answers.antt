@@ -1,5 +1,5 @@
 -- Section 11: its head, its inner lengths, its fields.
-use mathlib.Core.Path.{◌≡◌, refl, ap₂, ◌∙◌}
+use mathlib.Core.Path.{refl, ap₂, ◌∙◌}
 use mathlib.Core.Bool.{Bool, false}
 use mathlib.Core.List.{List, [], ◌∷◌}
 use Prim.Native.Nat.{ℕ, ◌+◌, ◌≤◌}
@@ -11,10 +11,9 @@ use Rattle.format.specs.Parts.{public_key}
 use Rattle.format.specs.Rules.{checks}
 use Rattle.format.specs.Reading.{stated, part_in, part_slots, located, section_checks}
 use Rattle.read_sections.specs.Refusals.{first_refusal}
-use Rattle.read_sections.proofs.Laws.{Left, passed, failed, section_head_is, head_room, pass_last, zero_yes, zero_not, number_at}
-use Rattle.read_sections.proofs.KeyLaws.{made_yes, made_not, exponent_at_is, modulus_at_is, flags_at_is, exponent_length_is, modulus_length}
-use Rattle.read_sections.proofs.public_key.public_key_at.Statement.{statement}
-use Rattle.read_sections.proofs.public_key.public_key_at.Tie as tie
+use Rattle.read_sections.proofs.Laws.{Left, passed, section_head_is, head_room, pass_last, zero_yes, number_at}
+use Rattle.read_sections.proofs.KeyLaws.{made_yes, exponent_at_is, modulus_at_is, flags_at_is, exponent_length_is, modulus_length}
+use Rattle.read_sections.proofs.public_key.public_key_at.Goals as goal
 
 -- the first k tests of the section have passed
 abbrev Past : ℕ → tie.Start → Type 0
@@ -45,54 +44,19 @@ past-3 : (c : tie.Else3) → Past 5 c.before.before.before.before.before.before.
 past-3 c x repeated = passed (past-2 c.before.before x repeated) (zero_yes _ _ 4 2 c.before.two4.ensures.0 c.if3.false)
 
 -- the rules on the fields are left, and they are what `key_fields` tested
-last : tie.Need-returns-4
+pub returns : goal.returns
 unfolding bytes_at
-last c x repeated =
-    let s = c.before.before.before.before.before.before.before.before.before.before.before.before.before.before.args.s.now in
-    let p = c.before.before.before.before.before.before.before.before.before.before.before.before.before.before.args.p in
+returns c x repeated =
+    let s = c.args.s.now in
+    let p = c.args.p in
     let r = drop p s in
-    let ex = c.before.before.before.before.before.before.before.before.before.before.two.ensures.0 in
-    let ey = c.before.before.before.before.before.before.before.before.before.two2.ensures.0 in
-    let m = whole c.before.before.before.before.before.before.before in
-    (past-3 c.before.before.before.before.before x repeated).same _
+    let ex = c.two-x.ensures.0 in
+    let ey = c.two-y.ensures.0 in
+    let m = whole c in
+    (past-3 c x repeated).same _
     (pass_last (located (part_slots public_key r) (checks x public_key (part_in public_key r).fields)) _ refl
-    (c.key-fields.ensures r (bytes_at r 8 2) (bytes_at r (12 + number (bytes_at r 6 2) + number (bytes_at r 10 2)) 4)
+    (c.key_fields.ensures r (bytes_at r 8 2) (bytes_at r (12 + number (bytes_at r 6 2) + number (bytes_at r 10 2)) 4)
     (exponent_length_is s p _ _ ex ey (omega arith)) (modulus_length s p _ _ ex ey (omega arith))
-    (number_at s p 8 2 c.before.before.before.before.two5.ensures.0) (flags_at_is s p _ _ ex ey c.before.before.before.four.ensures)
+    (number_at s p 8 2 c.two-bits.ensures.0) (flags_at_is s p _ _ ex ey c.four-flags.ensures)
     ∙ ap₂ (λ (e m : List ℕ). first_refusal (located (part_slots public_key r) (checks false public_key (bytes_at r 8 2 ∷ e ∷ m ∷ bytes_at r (12 + number (bytes_at r 6 2) + number (bytes_at r 10 2)) 4 ∷ []))))
     (exponent_at_is s p _ _ ex ey) (modulus_at_is s p _ _ ex ey)))
-
-pub public-key-at-spec : {M : Type 1} → statement M
-public-key-at-spec =
-    tie.close
-    (tie.spec
-    (λ c κs. search rules)
-    (λ c x repeated. (section_head_is 16 _ _ _ c.before.section_head_is.ensures).stop c.if1.true)
-    (λ c. search rules)
-    (λ c κs. let m = room c in omega (arith, m))
-    (λ c. search rules)
-    (λ c κs. let m = room c.before in omega (arith, m))
-    (λ c. search rules)
-    (λ c. search rules)
-    (λ c. search rules)
-    (λ c κs. search rules)
-    (λ c x repeated.
-    failed (past-1 c.before.before.before.before x repeated) (made_not _ _ _ _ c.before.before.before.two.ensures.0 c.before.before.two2.ensures.0 _ c.before.two3.ensures.0 c.if2.true))
-    (λ c. search rules)
-    (λ c κs. let m = room c.before.before.before.before in omega (arith, m))
-    (λ c x repeated. failed (past-2 c.before.before x repeated) (zero_not _ _ 4 2 c.before.two4.ensures.0 c.if3.true))
-    (λ c. search rules)
-    (λ c. search rules)
-    (λ c. search rules)
-    (λ c. search rules)
-    (λ c κs. let m = whole c.before.before in omega arith)
-    (λ c κs. let m = whole c.before.before.before in omega arith)
-    (λ c. search rules)
-    (λ c. search rules)
-    (λ c. search rules)
-    (λ c. let m = whole c.before.before.before.before in omega arith)
-    (λ c. search rules)
-    (λ c. search rules)
-    (λ c. let m = whole c.before.before.before.before.before in omega arith)
-    (λ c κs. search rules)
-    last)
