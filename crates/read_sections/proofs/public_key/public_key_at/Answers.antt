@@ -1,5 +1,5 @@
 -- Section 11: its head, its inner lengths, its fields.
-use mathlib.Core.Path.{refl, ap₂, ◌∙◌}
+use mathlib.Core.Path.{◌≡◌, refl, ap₂, ◌∙◌}
 use mathlib.Core.Bool.{Bool, false}
 use mathlib.Core.List.{List, [], ◌∷◌}
 use Prim.Native.Nat.{ℕ, ◌+◌, ◌≤◌}
@@ -19,8 +19,13 @@ use Rattle.read_sections.proofs.public_key.public_key_at.Goals as goal
 abbrev Past : ℕ → Bool → ℕ → List ℕ → Type 0
 Past k seen p s = (x repeated : Bool) → let cs = section_checks x public_key seen repeated (drop p s) in Left cs (drop k cs)
 
+-- the length that the section states
+states : {n : ℕ} (s : List ℕ) (p : ℕ) → n ≡ number (bytes_at s (p + 2) 2) → n ≡ stated (drop p s)
+states s p e = number_at s p 2 2 e
+
 -- the rules on the fields are left, and they are what `key_fields` tested
 pub returns : goal.returns
+unfolding bytes_at
 returns c x repeated =
     let room : (16 ≤ stated (drop c.args.p c.args.s.now)) × (c.args.p + stated (drop c.args.p c.args.s.now) ≤ length c.args.s.now) =
     let m = head_room 16 _ c.args.s.now c.args.p c.section_head-h.ensures c.if-h-ne0.false in
@@ -28,7 +33,7 @@ returns c x repeated =
     (m.0, omega (arith, m.0, m.1, h)) in
     let whole : c.args.p + 16 + c.two-x.result + c.two-y.result ≤ length c.args.s.now =
     let m = room in
-    let l = number_at _ _ 2 2 c.two.ensures.0 in
+    let l = states _ _ c.two.ensures.0 in
     omega (arith, m.1, c.if-x-y.false) in
     let past_1 : Past 3 c.args.seen c.args.p c.args.s.now = λ x repeated. (section_head_is 16 _ _ _ c.section_head-h.ensures).left c.if-h-ne0.false in
     let past_2 : Past 4 c.args.seen c.args.p c.args.s.now = λ x repeated.
@@ -40,7 +45,7 @@ returns c x repeated =
     let ex = c.two-x.ensures.0 in
     let ey = c.two-y.ensures.0 in
     let m = whole in
-    unfold bytes_at in (past_3 x repeated).same _
+    (past_3 x repeated).same _
     (pass_last (located (part_slots public_key r) (checks x public_key (part_in public_key r).fields)) _ refl
     (c.key_fields.ensures r (bytes_at r 8 2) (bytes_at r (12 + number (bytes_at r 6 2) + number (bytes_at r 10 2)) 4)
     (exponent_length_is s p _ _ ex ey (omega arith)) (modulus_length s p _ _ ex ey (omega arith))
