@@ -33,8 +33,8 @@ returns c x repeated =
     (m.0, omega (arith, m.0, m.1, h)) in
     let whole : c.args.p + 16 + c.two-x.result + c.two-y.result ≤ length c.args.s.now =
     let m = room in
-    let l = states _ _ c.two.ensures.0 in
-    omega (arith, m.1, c.if-x-y.false) in
+    let l = states c.args.s.now c.args.p c.two.ensures.0 in
+    omega (arith, m.1, l, c.if-x-y.false) in
     let past_1 : Past 3 c.args.seen c.args.p c.args.s.now = λ x repeated. (section_head_is 16 _ _ _ c.section_head-h.ensures).left c.if-h-ne0.false in
     let past_2 : Past 4 c.args.seen c.args.p c.args.s.now = λ x repeated.
     passed (past_1 x repeated) (made_yes _ _ _ _ c.two-x.ensures.0 c.two-y.ensures.0 _ c.two.ensures.0 c.if-x-y.false) in
@@ -48,7 +48,7 @@ returns c x repeated =
     (past_3 x repeated).same _
     (pass_last (located (part_slots public_key r) (checks x public_key (part_in public_key r).fields)) _ refl
     (c.key_fields.ensures r (bytes_at r 8 2) (bytes_at r (12 + number (bytes_at r 6 2) + number (bytes_at r 10 2)) 4)
-    (exponent_length_is s p _ _ ex ey (omega arith)) (modulus_length s p _ _ ex ey (omega arith))
+    (exponent_length_is s p _ _ ex ey (omega (arith, m))) (modulus_length s p _ _ ex ey (omega (arith, m)))
     (number_at s p 8 2 c.two-bits.ensures.0) (flags_at_is s p _ _ ex ey c.four-flags.ensures)
     ∙ ap₂ (λ (e m : List ℕ). first_refusal (located (part_slots public_key r) (checks false public_key (bytes_at r 8 2 ∷ e ∷ m ∷ bytes_at r (12 + number (bytes_at r 6 2) + number (bytes_at r 10 2)) 4 ∷ []))))
     (exponent_at_is s p _ _ ex ey) (modulus_at_is s p _ _ ex ey)))
