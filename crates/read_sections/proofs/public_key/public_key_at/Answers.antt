@@ -37,8 +37,8 @@ returns c x repeated =
     omega (arith, m.1, l, c.if-x-y.false) in
     let past_1 : Past 3 c.args.seen c.args.p c.args.s.now = λ x repeated. (section_head_is 16 _ _ _ c.section_head-h.ensures).left c.if-h-ne0.false in
     let past_2 : Past 4 c.args.seen c.args.p c.args.s.now = λ x repeated.
-    passed (past_1 x repeated) (made_yes _ _ _ _ c.two-x.ensures.0 c.two-y.ensures.0 _ c.two.ensures.0 c.if-x-y.false) in
-    let past_3 : Past 5 c.args.seen c.args.p c.args.s.now = λ x repeated. passed (past_2 x repeated) (zero_yes _ _ 4 2 c.two-2.ensures.0 c.if-two-ne0.false) in
+    passed (past_1 x repeated) (made_yes c.args.s.now c.args.p _ _ c.two-x.ensures.0 c.two-y.ensures.0 _ c.two.ensures.0 c.if-x-y.false) in
+    let past_3 : Past 5 c.args.seen c.args.p c.args.s.now = λ x repeated. passed (past_2 x repeated) (zero_yes c.args.s.now c.args.p 4 2 c.two-2.ensures.0 c.if-two-ne0.false) in
     let s = c.args.s.now in
     let p = c.args.p in
     let r = drop p s in
