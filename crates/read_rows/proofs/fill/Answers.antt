@@ -17,19 +17,14 @@ turn : (c : tie.In-loop invariant-loop decreases-loop) → let a = c.before.befo
     Next a.s.now a.table.now l.table (standing l.p l.n l.invariant.owner l.rules) l.p l.invariant.id
 turn c = next c.before.loop.invariant.filling c.loop-test.true
 
--- what of it is in the token, the counts before it, and the room for its row
-inside : (c : tie.In-loop invariant-loop decreases-loop) → let a = c.before.before.before.before.args in let l = c.before.loop in
-    (l.p + 4 ≤ length a.s.now) × (length a.s.now ≤ longest) × (l.n ≤ l.p) × (l.rules ≤ l.n) × (5 * l.n + 5 ≤ length l.table)
-    × (get_or a.s.now l.p 0 < 256)
-inside c =
-    let w = turn c in
-    let l = w.here.left in
-    (four w.here, l.short, l.few, l.ruled, w.row, id_below w.here refl)
+-- HELPER?
 
 -- ---- a rule without subsections
 
 cast-put-row : tie.Need-overflow-cast-put-row invariant-loop decreases-loop
 cast-put-row c = omega (arith, inside c.before.before.before.before.before.before)
+
+-- HELPER?
 
 -- once its row is stored
 bare-done : {u : List ℕ} (c : tie.Then1 invariant-loop decreases-loop) → let g = c.before.before in let i = g.before.before.before in
@@ -43,10 +38,14 @@ bare-done c eu =
     let k = bare_rule_is _ _ b.is-bare-rule.ensures c.if1.true in
     bare_on (turn t.before.before) refl t.two.ensures.0 g.rules-with.ensures k.0 k.1 eu
 
+-- LEMMA?
+
 -- ---- any other section
 
 cast-kind : tie.Need-overflow-cast-kind invariant-loop decreases-loop
 cast-kind c = omega (arith, inside c.before.before.before.before.before)
+
+-- HELPER?
 
 -- once its row is stored, its subsections are left
 section-done : {u : List ℕ} (c : tie.After-own-length invariant-loop decreases-loop) → let r = c.before.before.before.before.before in
@@ -62,10 +61,14 @@ section-done c eu =
     let f = section_on (turn t.before.before) refl t.two.ensures.0 c.own-length.ensures g.rules-with.ensures r.rule-in.ensures eu in
     (f.0, record { filling = f.1; kinds = refl; number = r.rule-in.ensures })
 
+-- LEMMA?
+
 -- ---- the end
 
 same_length : tie.Need-same-length invariant-loop decreases-loop
 same_length c = c.before.loop.invariant.filling.rest.long
+
+-- HELPER?
 
 pub loop-p-init : goal.loop-p-init
 loop-p-init c = record { owner = 0; id = 0; filling = start c.requires }
@@ -74,19 +77,39 @@ pub bounds-s-p : goal.bounds-s-p
 bounds-s-p c = c.loop-p-test.true
 
 pub two-length-requires : goal.two-length-requires
-two-length-requires c = omega (arith, inside c)
+two-length-requires c =
+    let inside : let a = c.args in let l = c.loop-p in (l.p + 4 ≤ length a.s.now) × (length a.s.now ≤ longest) × (l.n ≤ l.p) × (l.rules ≤ l.n) × (5 * l.n + 5 ≤ length l.table) × (get_or a.s.now l.p 0 < 256) =
+    let w = turn c in
+    let l = w.here.left in
+    (four w.here, l.short, l.few, l.ruled, w.row, id_below w.here refl) in
+    omega (arith, inside)
 
 pub rules_with-rules-requires : goal.rules_with-rules-requires
-rules_with-rules-requires c = omega (arith, inside c)
+rules_with-rules-requires c =
+    let inside : let a = c.args in let l = c.loop-p in (l.p + 4 ≤ length a.s.now) × (length a.s.now ≤ longest) × (l.n ≤ l.p) × (l.rules ≤ l.n) × (5 * l.n + 5 ≤ length l.table) × (get_or a.s.now l.p 0 < 256) =
+    let w = turn c in
+    let l = w.here.left in
+    (four w.here, l.short, l.few, l.ruled, w.row, id_below w.here refl) in
+    omega (arith, inside)
 
 pub is_bare_rule-requires : goal.is_bare_rule-requires
 is_bare_rule-requires c = tt
 
 pub put_row-requires : goal.put_row-requires
-put_row-requires c = (inside c).4
+put_row-requires c =
+    let inside : let a = c.args in let l = c.loop-p in (l.p + 4 ≤ length a.s.now) × (length a.s.now ≤ longest) × (l.n ≤ l.p) × (l.rules ≤ l.n) × (5 * l.n + 5 ≤ length l.table) × (get_or a.s.now l.p 0 < 256) =
+    let w = turn c in
+    let l = w.here.left in
+    (four w.here, l.short, l.few, l.ruled, w.row, id_below w.here refl) in
+    (inside).4
 
 pub loop-p-smaller-then-is_bare_rule : goal.loop-p-smaller-then-is_bare_rule
-loop-p-smaller-then-is_bare_rule c = omega (arith, inside c)
+loop-p-smaller-then-is_bare_rule c =
+    let inside : let a = c.args in let l = c.loop-p in (l.p + 4 ≤ length a.s.now) × (length a.s.now ≤ longest) × (l.n ≤ l.p) × (l.rules ≤ l.n) × (5 * l.n + 5 ≤ length l.table) × (get_or a.s.now l.p 0 < 256) =
+    let w = turn c in
+    let l = w.here.left in
+    (four w.here, l.short, l.few, l.ruled, w.row, id_below w.here refl) in
+    omega (arith, inside)
 
 pub loop-p-preserved-then-is_bare_rule : goal.loop-p-preserved-then-is_bare_rule
 loop-p-preserved-then-is_bare_rule c =
@@ -97,7 +120,12 @@ pub rule_in-rule-requires : goal.rule_in-rule-requires
 rule_in-rule-requires c = tt
 
 pub put_row-requires-in-loop-p : goal.put_row-requires-in-loop-p
-put_row-requires-in-loop-p c = (inside c).4
+put_row-requires-in-loop-p c =
+    let inside : let a = c.args in let l = c.loop-p in (l.p + 4 ≤ length a.s.now) × (length a.s.now ≤ longest) × (l.n ≤ l.p) × (l.rules ≤ l.n) × (5 * l.n + 5 ≤ length l.table) × (get_or a.s.now l.p 0 < 256) =
+    let w = turn c in
+    let l = w.here.left in
+    (four w.here, l.short, l.few, l.ruled, w.row, id_below w.here refl) in
+    (inside).4
 
 pub own_length-requires : goal.own_length-requires
 own_length-requires c = tt

@@ -10,11 +10,6 @@ use Rattle.read_rows.specs.Filling.{InSection}
 use Rattle.read_rows.proofs.Steps.{sub_inside, sub_turn, subs_end}
 use Rattle.read_rows.proofs.put_subsections.Goals as goal
 
--- What of the subsection at q is in the token, and the numbers.
-inside : (c : tie.In-loop invariant-loop decreases-loop) → let a = c.before.before.before.before.args in let l = c.before.loop in
-    (l.q + 4 ≤ length a.s.now) × (length a.s.now ≤ longest) × (l.row ≤ l.q) × (a.kind < 16777216) × (5 * l.row + 5 ≤ length l.table)
-inside c = sub_inside c.before.loop.invariant.0.within c.loop-test.true
-
 -- once its row is stored
 stored : {u t₀ : List ℕ} {rules i : ℕ} (c : tie.After-slice-known2 invariant-loop decreases-loop) → let g = c.before.before.before in
     let t = g.before.before in let l = t.before.before.loop in let a = t.before.before.before.before.before.args in
@@ -28,17 +23,25 @@ stored c w eu =
     let t = g.before.before in
     sub_turn w t.before.loop-test.true t.two.ensures.0 g.two2.ensures.0 eu
 
+-- LEMMA?
+
 pub loop-q-init : goal.loop-q-init
 loop-q-init c = (c.requires, (λ t₀ rules i w. w), refl)
 
 pub two-length-requires : goal.two-length-requires
-two-length-requires c = omega (arith, inside c)
+two-length-requires c =
+    let inside : let a = c.args in let l = c.loop-q in (l.q + 4 ≤ length a.s.now) × (length a.s.now ≤ longest) × (l.row ≤ l.q) × (a.kind < 16777216) × (5 * l.row + 5 ≤ length l.table) = sub_inside c.loop-q.invariant.0.within c.loop-q-test.true in
+    omega (arith, inside)
 
 pub two-requires : goal.two-requires
-two-requires c = omega (arith, inside c)
+two-requires c =
+    let inside : let a = c.args in let l = c.loop-q in (l.q + 4 ≤ length a.s.now) × (length a.s.now ≤ longest) × (l.row ≤ l.q) × (a.kind < 16777216) × (5 * l.row + 5 ≤ length l.table) = sub_inside c.loop-q.invariant.0.within c.loop-q-test.true in
+    omega (arith, inside)
 
 pub put_row-requires : goal.put_row-requires
-put_row-requires c = (inside c).4
+put_row-requires c =
+    let inside : let a = c.args in let l = c.loop-q in (l.q + 4 ≤ length a.s.now) × (length a.s.now ≤ longest) × (l.row ≤ l.q) × (a.kind < 16777216) × (5 * l.row + 5 ≤ length l.table) = sub_inside c.loop-q.invariant.0.within c.loop-q-test.true in
+    (inside).4
 
 pub loop-q-smaller : goal.loop-q-smaller
 loop-q-smaller c =
