@@ -14,6 +14,7 @@ use Rattle.read_information.proofs.Laws.{turn_one, turn_two, ends_there, ends_mi
 use Rattle.read_sections.proofs.Laws.{not_asked, asked}
 use Rattle.read_sections.proofs.Subs.{refused_told, refused_same, refused_then, loop_stops, loop_room}
 use Rattle.read_information.proofs.information_subs.Goals as goal
+use Rattle.read_information.proofs.information_subs.Goals.{then-two-eq1, else-two-eq1}
 
 pub loop-q-init : goal.loop-q-init
 loop-q-init c = record { done = []; protections = refl; dateds = refl; unmasked = refl; rows = refl; few = omega arith; ends = search rules; same = refl }
@@ -91,7 +92,10 @@ loop-q-preserved c =
     let z = c.if-f-ne0.false in
     let l = c.two-q.ensures.0 in
     let tag = c.two.ensures.0 in
-    ⊎_elim (λ v. turn_one w h f z l tag v.0.taken v.1 v.2) (λ v. turn_two w h f z l tag v.0.left v.1 v.2) c.if-two-eq1.branch
+    elim c.if-two-eq1.branch [
+      | then-two-eq1 v ↦ turn_one w h f z l tag v.if-two-eq1.true v.protected-is v.dated-is
+      | else-two-eq1 v ↦ turn_two w h f z l tag v.if-two-eq1.false v.protected-is v.dated-is
+    ]
 
 pub returns-then-not-full : goal.returns-then-not-full
 returns-then-not-full c =
