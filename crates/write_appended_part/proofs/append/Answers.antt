@@ -46,11 +46,11 @@ pub slice_bounds-read_draft-end-2 : goal.slice_bounds-read_draft-end-2
 slice_bounds-read_draft-end-2 c =
     let t = c in
     let x = c.exchange_part in
-    let e : length x.new.0 ≡ length t.args.draft.now = c.draft-1.given in
+    let e : length x.new.draft ≡ length t.args.draft.now = x.auto.draft in
     let k = t.requires.there in
     let h = c.if-draft-l.false in
     let n = c.two-l.ensures.0 in
-    sym (length-take-le _ x.new.0 (omega arith))
+    sym (length-take-le _ x.new.draft (omega arith))
 
 pub returns-in-Refused : goal.returns-in-Refused
 returns-in-Refused c =
