@@ -70,14 +70,14 @@ returns-then-exponent-gt65535 c =
     let a = c.args in
     let d = a.draft.now in
     let e = a.exponent.now in
-    let m = a.modulus.now in let z = unfit_added public_key (public_key_fields a.modulus-bits e m a.flags) d (count_unfit (length e) 65535 _ (omega arith)) c.not_fitting.ensures in record { answer = z.0; draft = z.1 }
+    let m = a.modulus.now in let z = unfit_added public_key (public_key_fields a.modulus_bits e m a.flags) d (count_unfit (length e) 65535 _ (omega arith)) c.not_fitting.ensures in record { answer = z.0; draft = z.1 }
 
 pub returns-then-modulus-gt65535 : goal.returns-then-modulus-gt65535
 returns-then-modulus-gt65535 c =
     let a = c.args in
     let d = a.draft.now in
     let e = a.exponent.now in
-    let m = a.modulus.now in let z = unfit_added public_key (public_key_fields a.modulus-bits e m a.flags) d
+    let m = a.modulus.now in let z = unfit_added public_key (public_key_fields a.modulus_bits e m a.flags) d
     (later_unfit (ltb (length e) 65536) (count_unfit (length m) 65535 _ (omega arith))) c.not_fitting-then-modulus-gt65535.ensures in record { answer = z.0; draft = z.1 }
 
 pub refused-requires : goal.refused-requires
@@ -87,19 +87,18 @@ refused-requires c =
 
 pub returns-then-f-ne0 : goal.returns-then-f-ne0
 returns-then-f-ne0 c =
-    let judged : let a = c.args in c.key_fields-f.result ≡ first_refusal (Rules a.modulus-bits a.exponent.now a.modulus.now a.flags) =
+    let judged : let a = c.args in c.key_fields-f.result ≡ first_refusal (Rules a.modulus_bits a.exponent.now a.modulus.now a.flags) =
     let a = c.args in
     let h₁ = c.if-exponent-gt65535.false in
     let h₂ = c.if-modulus-gt65535.false in
-    let s = key-states a.modulus-bits a.exponent.now a.modulus.now a.flags (omega arith) (omega arith) in
-    c.key_fields-f.ensures _ (big_endian 2 a.modulus-bits) (big_endian 4 a.flags) s.0 s.1 (sym (number_big_endian 2 a.modulus-bits (omega arith))) (sym (number_big_endian 4 a.flags (omega arith))) in
+    let s = key-states a.modulus_bits a.exponent.now a.modulus.now a.flags (omega arith) (omega arith) in
+    c.key_fields-f.ensures _ (big_endian 2 a.modulus_bits) (big_endian 4 a.flags) s.0 s.1 (sym (number_big_endian 2 a.modulus_bits (omega arith))) (sym (number_big_endian 4 a.flags (omega arith))) in
     let a = c.args in
     let d = a.draft.now in
     let h₁ = c.if-exponent-gt65535.false in
     let h₂ = c.if-modulus-gt65535.false in
-    let r = ready d a.modulus-bits a.exponent.now a.modulus.now a.flags (omega arith) (omega arith) (bytes_of d (λ i. (c.slice_known-1.given i).fits)) in
-    let s = rule-broken r (sym c.in-Accepted.is ∙ c.place_for-a.ensures) (judged) c.if-f-ne0.true in
-    record {
+    let r = ready d a.modulus_bits a.exponent.now a.modulus.now a.flags (omega arith) (omega arith) (bytes_of d (λ i. (c.slice_known-1.given i).fits)) in
+    let s = rule-broken r (sym c.in-Accepted.is ∙ c.place_for-a.ensures) (judged) c.if-f-ne0.true in record {
       answer = c.refused.ensures ∙ s.0;
       draft = s.1;
     }
@@ -128,7 +127,7 @@ put_two-next-requires c =
     let there = w.there in
     let least = (header_stands d w.reads).least in
     let k = c.put_key-end.ensures.place in
-    let long = key-length a.modulus-bits e m a.flags in
+    let long = key-length a.modulus_bits e m a.flags in
     let l = c.draft-1.given in
     (omega arith, omega arith)
 
@@ -143,7 +142,7 @@ overflow_cast-result c =
     let most = w.most in
     let there = w.there in
     let k = c.put_key-end.ensures.place in
-    let long = key-length a.modulus-bits e m a.flags in
+    let long = key-length a.modulus_bits e m a.flags in
     omega arith
 
 pub returns-in-Refused : goal.returns-in-Refused
@@ -154,23 +153,23 @@ returns-in-Refused c =
     let m = a.modulus.now in
     let h₁ = c.if-exponent-gt65535.false in
     let h₂ = c.if-modulus-gt65535.false in
-    let r = ready d a.modulus-bits e m a.flags (omega arith) (omega arith) (bytes_of d (λ i. (c.slice_known-1.given i).fits)) in let z = no_place r (sym c.in-Refused.is ∙ c.place_for-a.ensures) in record { answer = z.0; draft = z.1 }
+    let r = ready d a.modulus_bits e m a.flags (omega arith) (omega arith) (bytes_of d (λ i. (c.slice_known-1.given i).fits)) in let z = no_place r (sym c.in-Refused.is ∙ c.place_for-a.ensures) in record { answer = z.0; draft = z.1 }
 
 pub returns-else-f-ne0 : goal.returns-else-f-ne0
 returns-else-f-ne0 c =
-    let judged : let a = c.args in c.key_fields-f.result ≡ first_refusal (Rules a.modulus-bits a.exponent.now a.modulus.now a.flags) =
+    let judged : let a = c.args in c.key_fields-f.result ≡ first_refusal (Rules a.modulus_bits a.exponent.now a.modulus.now a.flags) =
     let a = c.args in
     let h₁ = c.if-exponent-gt65535.false in
     let h₂ = c.if-modulus-gt65535.false in
-    let s = key-states a.modulus-bits a.exponent.now a.modulus.now a.flags (omega arith) (omega arith) in
-    c.key_fields-f.ensures _ (big_endian 2 a.modulus-bits) (big_endian 4 a.flags) s.0 s.1 (sym (number_big_endian 2 a.modulus-bits (omega arith))) (sym (number_big_endian 4 a.flags (omega arith))) in
+    let s = key-states a.modulus_bits a.exponent.now a.modulus.now a.flags (omega arith) (omega arith) in
+    c.key_fields-f.ensures _ (big_endian 2 a.modulus_bits) (big_endian 4 a.flags) s.0 s.1 (sym (number_big_endian 2 a.modulus_bits (omega arith))) (sym (number_big_endian 4 a.flags (omega arith))) in
     let a = c.args in
     let d = a.draft.now in
     let e = a.exponent.now in
     let m = a.modulus.now in
     let h₁ = c.if-exponent-gt65535.false in
     let h₂ = c.if-modulus-gt65535.false in
-    let r = ready d a.modulus-bits e m a.flags (omega arith) (omega arith) (bytes_of d (λ i. (c.slice_known-1.given i).fits)) in
+    let r = ready d a.modulus_bits e m a.flags (omega arith) (omega arith) (bytes_of d (λ i. (c.slice_known-1.given i).fits)) in
     let k = c.put_key-end.ensures.place in
-    let long = key-length a.modulus-bits e m a.flags in let z = put-after r (sym c.in-Accepted.is ∙ c.place_for-a.ensures) (located_kept (part_slots public_key (write (16 + length e + length m) (layout public_key) (public_key_fields a.modulus-bits e m a.flags))) (checks false public_key (public_key_fields a.modulus-bits e m a.flags)) (all_hold (Rules a.modulus-bits e m a.flags) refl (sym c.if-f-ne0.false ∙ judged))) (omega arith)
+    let long = key-length a.modulus_bits e m a.flags in let z = put-after r (sym c.in-Accepted.is ∙ c.place_for-a.ensures) (located_kept (part_slots public_key (write (16 + length e + length m) (layout public_key) (public_key_fields a.modulus_bits e m a.flags))) (checks false public_key (public_key_fields a.modulus_bits e m a.flags)) (all_hold (Rules a.modulus_bits e m a.flags) refl (sym c.if-f-ne0.false ∙ judged))) (omega arith)
     (length_stored 0 c.put_key-end.result c.put_two-next.ensures ∙ ap (restate 0 c.put_key-end.result) c.put_key-end.ensures.bytes) in record { answer = z.0; draft = z.1 }

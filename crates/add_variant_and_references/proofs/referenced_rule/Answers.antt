@@ -11,12 +11,12 @@ use Rattle.add_variant_and_references.proofs.referenced_rule.Goals as goal
 
 pub returns-then-rule_id-ne8 : goal.returns-then-rule_id-ne8
 returns-then-rule_id-ne8 c =
-    let a = c.args in let z = rules_unfit a.tag a.rule-id.now a.draft.now c.if-rule_id-ne8.true c.not_fitting.ensures in record { answer = z.0; draft = z.1 }
+    let a = c.args in let z = rules_unfit a.tag a.rule_id.now a.draft.now c.if-rule_id-ne8.true c.not_fitting.ensures in record { answer = z.0; draft = z.1 }
 
 pub slice_bounds-add_subsection-end : goal.slice_bounds-add_subsection-end
 slice_bounds-add_subsection-end c =
     let p = c.put-c in
-    sym (length-take-le p.result p.new.0 (array-borrow-prefix-part c))
+    sym (length-take-le p.result p.new.line (search rules))
 
 pub returns : goal.returns
 returns c =
@@ -25,10 +25,10 @@ returns c =
     let z = v in
     let h = z in
     let a = h.args in
-    let x = a.rule-id.now in
+    let x = a.rule_id.now in
     let t : 14 ≡ v.put-c.result = omega arith in let z = rules_stored a.tag x a.draft.now (search rules)
     (stored_then h.subsection_head-a.ensures
     (stored_then z.put_one-b.ensures (stored_last v.put-c.ensures)))
     (search rules)
     t
-    s.add_subsection.ensures in record { answer = z.0; draft = z.1 }
+    (s.add_subsection.ensures.answer, (s.add_subsection.ensures.draft, s.add_subsection.ensures.bytes)) in record { answer = z.0; draft = z.1 }

@@ -7,8 +7,7 @@ use Rattle.add_variant_and_references.proofs.source_rule.Goals as goal
 pub returns : goal.returns
 returns c =
     let f = c.referenced_rule.ensures in
-    let y : NamesRule source_rule 4 = record { subsection = refl; section = refl; fields = refl } in
-    record {
+    let y : NamesRule source_rule 4 = record { subsection = refl; section = refl; fields = refl } in record {
       answer = f.answer source_rule y;
       draft = f.draft source_rule y;
     }

@@ -7,8 +7,7 @@ use Rattle.add_variant_and_references.proofs.transport_rule.Goals as goal
 pub returns : goal.returns
 returns c =
     let f = c.referenced_rule.ensures in
-    let y : NamesRule transport_rule 2 = record { subsection = refl; section = refl; fields = refl } in
-    record {
+    let y : NamesRule transport_rule 2 = record { subsection = refl; section = refl; fields = refl } in record {
       answer = f.answer transport_rule y;
       draft = f.draft transport_rule y;
     }

@@ -21,7 +21,7 @@ returns-then-variant-gt255 c =
 pub slice_bounds-add_subsection-end : goal.slice_bounds-add_subsection-end
 slice_bounds-add_subsection-end c =
     let p = c.put-d in
-    sym (length-take-le p.result p.new.0 (array-borrow-prefix-part c))
+    sym (length-take-le p.result p.new.line (search rules))
 
 pub returns : goal.returns
 returns c =
@@ -40,4 +40,4 @@ returns c =
     (stored_last v.put-d.ensures))))
     (search rules)
     t
-    s.add_subsection.ensures in record { answer = z.0; draft = z.1 }
+    (s.add_subsection.ensures.answer, (s.add_subsection.ensures.draft, s.add_subsection.ensures.bytes)) in record { answer = z.0; draft = z.1 }
