@@ -2,27 +2,15 @@
 use mathlib.Core.Path.{◌≡◌, refl, ap, ◌∙◌}
 use mathlib.Core.Bool.{true, false}
 use Prim.Native.Nat.{ℕ, zero, suc, ◌-◌, ◌<◌}
-use mathlib.Core.List.{List, [], ◌∷◌}
+use mathlib.Core.List.{List}
 use native.Mathlib.Omega.{arith}
-use lib.Dec.{ltb}
 use native.Mathlib.Numerals.{sub-one}
 use borrow.Author.Tests.{ltb-true, ltb-false}
-use types.Run.{OneOf}
-use mathlib.Core.Logic.{inl, inr}
-use denote.Enum.Declared.{tag_of}
 use Rattle.format.specs.Views.{step_at, place_after}
 use Rattle.format.specs.declared.Step.{Step}
 use Rattle.format.specs.declared.Step.TheVariants.{Record, End, Stopped}
-use Rattle.format.specs.contracts.Step.{the_type}
 use Rattle.walker.specs.Walking.{step_after}
 use Rattle.walker.specs.Turns.{goes_on}
-
--- A step that is no record leads nowhere.
-pub stays : (at : ℕ) (s : Step) → OneOf (1 ∷ 2 ∷ []) (tag_of the_type s) → at ≡ place_after at s
-stays at (Record r n) (inl e) = let z : ◌≡◌ {A = ℕ} 0 1 = e in absurd (omega arith)
-stays at (Record r n) (inr e) = let z : ◌≡◌ {A = ℕ} 0 2 = e in absurd (omega arith)
-stays at End k = refl
-stays at (Stopped n p) k = refl
 
 -- Where a step leads nowhere, all steps after it are the same.
 out : (bs : List ℕ) (at n : ℕ) → at ≡ place_after at (step_at bs at) → step_at bs at ≡ step_after bs at n
@@ -44,21 +32,6 @@ none bs at (suc n) e = absurd (omega arith)
 
 -- ---- whether the walk goes on
 
--- Not after a step that is no row.
-pub stops : (s : Step) (n : ℕ) → OneOf (1 ∷ 2 ∷ []) (tag_of the_type s) → false ≡ goes_on s n
-unfolding goes_on
-stops (Record r m) n (inl e) = let z : ◌≡◌ {A = ℕ} 0 1 = e in absurd (omega arith)
-stops (Record r m) n (inr e) = let z : ◌≡◌ {A = ℕ} 0 2 = e in absurd (omega arith)
-stops End n k = refl
-stops (Stopped m p) n k = refl
-
--- After a row, where steps are left.
-pub by_count : (s : Step) (n : ℕ) → tag_of the_type s ≡ 0 → ltb 0 n ≡ goes_on s n
-unfolding goes_on
-by_count (Record r m) n e = refl
-by_count End n e = absurd (let z : ◌≡◌ {A = ℕ} 1 0 = e in omega arith)
-by_count (Stopped m p) n e = absurd (let z : ◌≡◌ {A = ℕ} 2 0 = e in omega arith)
-
 -- Where it goes on, steps are left.
 pub some_left : (s : Step) (n : ℕ) → goes_on s n ≡ true → 0 < n
 unfolding goes_on
@@ -72,3 +45,32 @@ unfolding goes_on
 reached bs at n (Record r m) e g = e ∙ none bs at n (let z = ltb-false 0 n g in omega (arith, z))
 reached bs at n End e g = e ∙ out bs at n (ap (place_after at) e)
 reached bs at n (Stopped m p) e g = e ∙ out bs at n (ap (place_after at) e)
+
+-- ---- the loop of `nth_step`
+
+-- The last step is the one at a place, the reader's own place is the one after that step, and what is left of the walk from
+-- there is the whole walk.
+pub record Turn (bs : List ℕ) (n at : ℕ) (s : Step) (left : ℕ) : Type 0 where
+  pub place : ℕ
+  pub step : s ≡ step_at bs place
+  pub next : at ≡ place_after place s
+  pub same : step_after bs place left ≡ step_after bs 8 n
+
+-- At first all steps are left.
+pub begins : {bs : List ℕ} {n at p : ℕ} {s : Step} → p ≡ 8 → s ≡ step_at bs p → at ≡ place_after p s → Turn bs n at s n
+begins {bs} {n} {at} {p} {s} h e f = record { place = p; step = e; next = f; same = ap (λ (q : ℕ). step_after bs q n) h }
+
+-- Another step is taken.
+pub follows : {bs : List ℕ} {n at at' left : ℕ} {s s' : Step} → Turn bs n at s left → goes_on s left ≡ true → s' ≡ step_at bs at
+    → at' ≡ place_after at s' → Turn bs n at' s' (left - 1)
+follows {bs} {n} {at} {at'} {left} {s} {s'} w g e f =
+    record {
+      place = at;
+      step = e;
+      next = f;
+      same = more bs w.place left (some_left s left g) (w.next ∙ ap (place_after w.place) w.step) ∙ w.same;
+    }
+
+-- The last one is what was asked for.
+pub ends : {bs : List ℕ} {n at left : ℕ} {s : Step} → Turn bs n at s left → goes_on s left ≡ false → s ≡ step_after bs 8 n
+ends {bs} {n} {at} {left} {s} w g = reached bs w.place left s w.step g ∙ w.same

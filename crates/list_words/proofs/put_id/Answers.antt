@@ -10,15 +10,15 @@ use Rattle.list_words.proofs.put_id.Goals as goal
 
 pub returns-in-30 : goal.returns-in-30
 returns-in-30 c =
-    let m = c.in_default.in_default-own in record {
-      stored = stored_as (sym (ap (λ (i : ℕ). id_text i ++ (32 ∷ [])) m.keys1)) c.put.ensures;
+    record {
+      stored = stored_as (sym (ap (λ (i : ℕ). id_text i ++ (32 ∷ [])) c.in-30.is)) c.put.ensures;
       short = search rules;
     }
 
 pub returns-in-31 : goal.returns-in-31
 returns-in-31 c =
-    let m = c.in_default.in_default-own in record {
-      stored = stored_as (sym (ap (λ (i : ℕ). id_text i ++ (32 ∷ [])) m.keys2)) c.put-in-31.ensures;
+    record {
+      stored = stored_as (sym (ap (λ (i : ℕ). id_text i ++ (32 ∷ [])) c.in-31.is)) c.put-in-31.ensures;
       short = search rules;
     }
 

@@ -17,7 +17,7 @@ returns-then-digit-one c =
     let a = c in
     let e : a.args.digit ≡ a.args.one + 0 = omega (arith, c.if-digit-one.true) in
     let l : a.args.o < length a.args.s.now = omega (arith, a.requires.1 0 e (omega arith)) in
-    count_one a.args.s.now a.args.o a.args.digit a.args.one a.args c.if-digit-one.true l c.wide.ensures.0
+    count_one a.args.s.now a.args.o a.args.digit a.args.one a.args.before c.if-digit-one.true l c.wide.ensures.0
 
 pub two-requires : goal.two-requires
 two-requires c = c.requires.1 1 c.if-digit-one-2.true (omega arith)
@@ -25,9 +25,9 @@ two-requires c = c.requires.1 1 c.if-digit-one-2.true (omega arith)
 pub returns-then-digit-one-2 : goal.returns-then-digit-one-2
 returns-then-digit-one-2 c =
     let a = c in
-    count_two a.args.s.now a.args.o a.args.digit a.args.one a.args c.if-digit-one-2.true c.two.ensures.0
+    count_two a.args.s.now a.args.o a.args.digit a.args.one a.args.before c.if-digit-one-2.true c.two.ensures.0
 
 pub returns : goal.returns
 returns c =
     let a = c in
-    count_kept a.args.s.now a.args.o a.args.digit a.args.one a.args c.if-digit-one.false c.if-digit-one-2.false
+    count_kept a.args.s.now a.args.o a.args.digit a.args.one a.args.before c.if-digit-one.false c.if-digit-one-2.false

@@ -12,6 +12,16 @@ loop-rest-init c = starts c.requires c.digits-rest.ensures
 pub width-n-requires : goal.width-n-requires
 width-n-requires c = tt
 
+pub overflow_cast-result : goal.overflow_cast-result
+overflow_cast-result c =
+    let w = here c.loop-rest.invariant c.loop-rest-test.true in
+    omega (arith, w.room, w.lying.standing.short)
+
+pub overflow_cast-result-then-left-eq0 : goal.overflow_cast-result-then-left-eq0
+overflow_cast-result-then-left-eq0 c =
+    let w = here c.loop-rest.invariant c.loop-rest-test.true in
+    omega (arith, w.room, w.lying.standing.short, w.width, c.width-n.ensures)
+
 pub returns-then-left-eq0 : goal.returns-then-left-eq0
 returns-then-left-eq0 c =
     let w = here c.loop-rest.invariant c.loop-rest-test.true in
@@ -26,6 +36,11 @@ pub count-second-requires : goal.count-second-requires
 count-second-requires c =
     let w = here c.loop-rest.invariant c.loop-rest-test.true in
     count_room w 1 (omega arith)
+
+pub overflow_add-o : goal.overflow_add-o
+overflow_add-o c =
+    let w = here c.loop-rest.invariant c.loop-rest-test.true in
+    omega (arith, w.room, w.lying.standing.short, w.width, c.width-n.ensures)
 
 pub loop-rest-smaller : goal.loop-rest-smaller
 loop-rest-smaller c = omega (arith, c.loop-rest-test.true)
