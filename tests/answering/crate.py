@@ -128,16 +128,21 @@ def modules(bases, cases, size, specs):
     return found, by_law
 
 
+def copy_definitions(folder, format_crate):
+    """Copies `format` without its proofs beside the crate."""
+    for part in ("src", "specs"):
+        copy = os.path.join(folder, "crates", "format", part)
+        shutil.rmtree(copy, ignore_errors=True)
+        shutil.copytree(os.path.join(format_crate, part), copy)
+
+
 def write_crate(folder, format_crate, bases, cases, size=OF_LAW):
     """Writes the crate and a copy of `format` without its proofs, and gives the cases of each law by its name."""
-    crates = os.path.join(folder, "crates")
-    proofs, source, plain = (os.path.join(crates, *p) for p in (("answers", "proofs"), ("answers", "src"), ("format",)))
+    proofs, source = (os.path.join(folder, "crates", "answers", part) for part in ("proofs", "src"))
     for path in (proofs, source):
         shutil.rmtree(path, ignore_errors=True)
         os.makedirs(path)
-    for part in ("src", "specs"):
-        shutil.rmtree(os.path.join(plain, part), ignore_errors=True)
-        shutil.copytree(os.path.join(format_crate, part), os.path.join(plain, part))
+    copy_definitions(folder, format_crate)
     texts = {os.path.join(folder, "crates.txt"): "format:\nanswers: format\n", os.path.join(source, "lib.rt"): SOURCE}
     written, by_law = modules(bases, cases, size, os.path.join(format_crate, "specs"))
     texts[os.path.join(proofs, "Lib.antt")] = "".join(f"pub mod {name}\n" for name in written)
