@@ -83,6 +83,12 @@ class Copy:
         self.clear()
         without = LEFT_OUT + (("target",) if os.path.isdir(os.path.join(self.folder, "target")) else ())
         shutil.copytree(root, self.folder, ignore=shutil.ignore_patterns(*without), dirs_exist_ok=True, symlinks=True)
+        for crate in crates_of(root):  # the library and the programs, which the tests run
+            for name in (crate, f"lib{crate}.a"):
+                built = os.path.join("crates", crate, "out", name)
+                if os.path.isfile(os.path.join(root, built)):
+                    os.makedirs(os.path.dirname(os.path.join(self.folder, built)), exist_ok=True)
+                    shutil.copy2(os.path.join(root, built), os.path.join(self.folder, built))
 
     def clear(self):
         """Of a folder that was kept: target and what the prover keeps for each crate stand, the rest is copied anew."""
@@ -157,9 +163,6 @@ class Copy:
             ran = subprocess.run(["nice", "-n", "19", "rt", "run"], cwd=where, stdin=given, stdout=subprocess.PIPE, stderr=subprocess.PIPE)
             self.log.write(f"$ rt run  # in {program}\n{ran.stderr.decode('utf-8', 'replace')}\n")
             good = ran.returncode == 0 and ran.stdout == wanted.read()
-        built = os.path.join(self.folder, "target", "bin", program)  # where the tests look for it
-        if good and os.path.exists(built):
-            shutil.copy2(os.path.join(where, "out", program), built)
         return good
 
     def ask_second_reader(self, stage):
