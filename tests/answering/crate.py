@@ -8,55 +8,53 @@ from answering import laws, terms
 OF_MODULE = 10  # laws in one module
 OF_LAW = 20  # cases in one law: quicker than a law for each
 # The files of definitions that a sort of case needs, and what else it names of them.
-READING = {"Bytes": "", "Forms": "", "Reading": "rowCount Outcome"}
-KINDS = ("Part publicKey rule transportVariant transportRule exportParameters sourceRule tokenParameters name information protection "
-         "dates applicationData")
-FIELDS = "writeAnswer draftAfter publicKeyFields ruleFields exportFields informationFields dateFields"
+READING = {"Bytes": "", "Forms": "", "Reading": "row_count Outcome"}
+KINDS = ("Part public_key rule transport_variant transport_rule export_parameters source_rule token_parameters name information protection "
+         "dates application_data")
+FIELDS = "write_answer draft_after public_key_fields rule_fields export_fields information_fields date_fields"
 WRITING = {**READING, "Parts": KINDS, "Writer": FIELDS}
-PARTS = {**WRITING, "Parts": KINDS + " written", "Reading": "partsOf rowCount", "Rules": "sectionsOf", "Legal": "ruleCount joined", "Table": "rows",
-         "Views": "", "Claims": "ruleRows subsOf sectionsEnd walk walkPlace restate"}
+PARTS = {**WRITING, "Parts": KINDS + " written", "Reading": "parts_of row_count", "Rules": "sections_of", "Legal": "rule_count joined", "Table": "rows",
+         "Views": "", "Claims": "rule_rows subs_of sections_end walk walk_place restate"}
 SORTS = {"read": (laws.of_reading, READING), "draft": (laws.of_reading, READING), "finish": (laws.of_reading, WRITING),
          "start": (laws.of_writing, WRITING), "add": (laws.of_writing, WRITING), "table": (laws.of_table, {**READING, "Table": ""}),
-         "view": (laws.of_view, {**READING, "Views": ""}), "views": (laws.of_views, {**READING, "Views": "", "Claims": "viewsFrom"}),
-         "step": (laws.of_step, {**READING, "Views": "placeAfter"}),
+         "view": (laws.of_view, {**READING, "Views": ""}), "views": (laws.of_views, {**READING, "Views": "", "Claims": "views_from"}),
+         "step": (laws.of_step, {**READING, "Views": "place_after"}),
          "first": (laws.of_line, {"Lines": ""}), "line": (laws.of_line, {"Lines": ""}), "date": (laws.of_form, {"Bytes": "", "Forms": ""}),
          "ruleid": (laws.of_form, {"Forms": ""}), "label": (laws.of_form, {"Forms": ""}), "given": (laws.of_given, {"GivenNumbers": ""}),
-         "example": (laws.of_example, {"Examples": "starred Example read readAny date", "DateExamples": "datesRead"}), "parts": (laws.of_parts, PARTS)}
-HEAD = """use mathlib.Core.Path.{_≡_, refl}
-use mathlib.Core.Bool.{Bool, true, false}
-use mathlib.Core.List.{List, [], _∷_, _++_}
-use Prim.Native.Nat.{ℕ}
-use lib.ListN.{replicate, set, take, getD, length}
-use Rattle·format.specs.declared.Answer.{Answer}
-use Rattle·format.specs.declared.Answer.the-variants.{Accepted, Refused}
-use Rattle·format.specs.declared.Row.{Row}
-use Rattle·format.specs.declared.Where.{Where}
-use Rattle·format.specs.declared.Where.the-variants.{At, Missing}
-use Rattle·format.specs.declared.Step.{Step}
-use Rattle·format.specs.declared.Step.the-variants.{Record, End, Stopped}
+         "example": (laws.of_example, {"Examples": "starred Example read read_any date", "DateExamples": "dates_read"}), "parts": (laws.of_parts, PARTS)}
+HEAD = """use Rattle.std.specs.Prelude.{◌≡◌, refl, Bool, true, false, List, [], ◌∷◌, ◌++◌, ℕ, replicate, set, take, get_or, length}
+use Rattle.format.specs.declared.Answer.{Answer}
+use Rattle.format.specs.declared.Answer.TheVariants.{Accepted, Refused}
+use Rattle.format.specs.declared.Row.{Row}
+use Rattle.format.specs.declared.Where.{Where}
+use Rattle.format.specs.declared.Where.TheVariants.{At, Missing}
+use Rattle.format.specs.declared.Step.{Step}
+use Rattle.format.specs.declared.Step.TheVariants.{Record, End, Stopped}
 """
+# The crate's code: none.
+SOURCE = "#![tactic(auto)]\n\npub fn nothing() {}\n"
 FAILED = re.compile(r"error: `(\w+-\d+(?:-to-\d+)?)`: (.*\n(?:  .*\n)*)")
 # What comes of a call on a draft: the answer and what the draft then holds.
 CALLED = """
 abbrev called : Outcome (List ℕ) → List ℕ → Answer × List ℕ
-called o d = (writeAnswer o, draftAfter o d)
+called o d = (write_answer o, draft_after o d)
 """
 # What an example shows, whichever sort of example it is.
 EXAMPLES = """
-abbrev exampleBytes : ℕ → Example → List ℕ
-exampleBytes b (read bs a) = bs
-exampleBytes b (readAny f a) = f b
-exampleBytes b (date d t) = d
+abbrev example_bytes : ℕ → Example → List ℕ
+example_bytes b (read bs a) = bs
+example_bytes b (read_any f a) = f b
+example_bytes b (date d t) = d
 
-abbrev exampleAnswer : Example → Answer
-exampleAnswer (read bs a) = a
-exampleAnswer (readAny f a) = a
-exampleAnswer (date d t) = Accepted 0
+abbrev example_answer : Example → Answer
+example_answer (read bs a) = a
+example_answer (read_any f a) = a
+example_answer (date d t) = Accepted 0
 
-abbrev exampleDate : Example → Bool
-exampleDate (read bs a) = true
-exampleDate (readAny f a) = true
-exampleDate (date d t) = t
+abbrev example_date : Example → Bool
+example_date (read bs a) = true
+example_date (read_any f a) = true
+example_date (date d t) = t
 """
 
 
@@ -97,10 +95,10 @@ def module(sort, some_groups, bases, specs):
     """The text of a module with these groups of one sort."""
     needs = SORTS[sort][1]
     hidden = [name for file in needs for name in unfoldable(specs, file)]
-    text = HEAD + "use Rattle·answers·proofs.proofs.Bases.{" + ", ".join(bases) + "}\n"
+    text = HEAD + "use Rattle.answers.proofs.Bases.{" + ", ".join(bases) + "}\n"
     for file, words in needs.items():
         names = unfoldable(specs, file) + words.split()
-        text += f"use Rattle·format.specs.{file}.{{{', '.join(names)}}}\n" if names else ""
+        text += f"use Rattle.format.specs.{file}.{{{', '.join(names)}}}\n" if names else ""
     text += {"example": EXAMPLES, "start": CALLED, "add": CALLED}.get(sort, "")
     unfolding = f"unfolding {' '.join(hidden)}\n" if hidden else ""
     for claim, proof in map(law, some_groups):
@@ -110,7 +108,7 @@ def module(sort, some_groups, bases, specs):
 
 def bases_module(bases):
     """The tokens that others are told by."""
-    text = "use mathlib.Core.List.{List, [], _∷_, _++_}\nuse Prim.Native.Nat.{ℕ}\nuse lib.ListN.{replicate}\n"
+    text = "use Rattle.std.specs.Prelude.{List, [], ◌∷◌, ◌++◌, ℕ, replicate}\n"
     for name, bs in bases.items():
         text += f"\nabbrev pub {name} : List ℕ\n{name} = {terms.numbers(bs)}\n"
     return text
@@ -130,15 +128,22 @@ def modules(bases, cases, size, specs):
     return found, by_law
 
 
+def copy_definitions(folder, format_crate):
+    """Copies `format` without its proofs beside the crate."""
+    for part in ("src", "specs"):
+        copy = os.path.join(folder, "crates", "format", part)
+        shutil.rmtree(copy, ignore_errors=True)
+        shutil.copytree(os.path.join(format_crate, part), copy)
+
+
 def write_crate(folder, format_crate, bases, cases, size=OF_LAW):
-    """Writes the crate and a view of `format` without its proofs, and gives the cases of each law by its name."""
-    proofs, source, plain = (os.path.join(folder, *p) for p in (("crates", "answers", "proofs"), ("crates", "answers", "src"), ("format",)))
-    for path in (proofs, source, plain):
+    """Writes the crate and a copy of `format` without its proofs, and gives the cases of each law by its name."""
+    proofs, source = (os.path.join(folder, "crates", "answers", part) for part in ("proofs", "src"))
+    for path in (proofs, source):
         shutil.rmtree(path, ignore_errors=True)
         os.makedirs(path)
-    for part in ("src", "specs"):
-        os.symlink(os.path.join(format_crate, part), os.path.join(plain, part))
-    texts = {os.path.join(folder, "crates.txt"): "answers:\n", os.path.join(source, "lib.rt"): "pub fn nothing() {}\n"}
+    copy_definitions(folder, format_crate)
+    texts = {os.path.join(folder, "crates.txt"): "format:\nanswers: format\n", os.path.join(source, "lib.rt"): SOURCE}
     written, by_law = modules(bases, cases, size, os.path.join(format_crate, "specs"))
     texts[os.path.join(proofs, "Lib.antt")] = "".join(f"pub mod {name}\n" for name in written)
     texts.update((os.path.join(proofs, name + ".antt"), text) for name, text in written.items())
@@ -148,9 +153,9 @@ def write_crate(folder, format_crate, bases, cases, size=OF_LAW):
     return by_law
 
 
-def check_words(folder):
-    """The command that checks the crate, to be run in its folder."""
-    return ["rt", "dev", "answers", "--lib", f"format:={os.path.join(folder, 'format', 'src', 'lib.rt')}"]
+def check_command(folder):
+    """The command that checks the crate, and the folder to run it in."""
+    return ["rt", "check"], os.path.join(folder, "crates", "answers")
 
 
 def failed_laws(text, by_law):

@@ -6,7 +6,7 @@ SMALL = 100  # of tokens up to so many bytes more is asked
 
 
 def of_reading(case, bases):
-    asked = {"read": "answer {}", "draft": "asAnswer rowCount (reading false {})", "finish": "finish {}"}[case.sort]
+    asked = {"read": "answer {}", "draft": "as_answer row_count (reading false {})", "finish": "finish {}"}[case.sort]
     return [(asked.format(terms.token(bases, bytes_of(case.words[0]))), terms.answer(*case.says))]
 
 
@@ -27,7 +27,7 @@ def of_table(case, bases):
     token, room = terms.token(bases, bytes_of(case.words[0])), int(case.words[1])
     table = "(" + terms.numbers(range(1, room + 1)) + ")"
     after = terms.numbers([int(n) for n in case.says[2].split(",") if n])
-    return [(f"tableAnswer {token} {table}", terms.answer(*case.says[:2])), (f"tableAfter {token} {table}", after)]
+    return [(f"table_answer {token} {table}", terms.answer(*case.says[:2])), (f"table_after {token} {table}", after)]
 
 
 def of_view(case, bases):
@@ -35,18 +35,18 @@ def of_view(case, bases):
     asked = " ".join([terms.token(bases, bs)] + case.words[1:])
     word, first, second = case.says
     at = word == "at"
-    laws = [(f"fieldAt {asked}", f"{'At' if at else 'Missing'} {first} {second}")]
+    laws = [(f"field_at {asked}", f"{'At' if at else 'Missing'} {first} {second}")]
     if len(bs) <= SMALL:
         there = bs[int(first):int(first) + int(second)] if at else b""
         laws.append((f"view {asked}", terms.numbers(there)))
-        laws.append((f"viewAnswer {asked}", terms.answer("0", "0") if at else terms.answer(first, second)))
+        laws.append((f"view_answer {asked}", terms.answer("0", "0") if at else terms.answer(first, second)))
     return laws
 
 
 def of_views(case, bases):
     """The views of a row's fields, laid end to end."""
     token, index, fields = terms.token(bases, bytes_of(case.words[0])), *case.words[1:]
-    return [(f"viewsFrom {token} {index} 0 {fields}", terms.numbers(bytes_of(case.says[0])))]
+    return [(f"views_from {token} {index} 0 {fields}", terms.numbers(bytes_of(case.says[0])))]
 
 
 def step(says):
@@ -57,22 +57,22 @@ def step(says):
 
 def of_step(case, bases):
     bs, place = bytes_of(case.words[0]), case.words[1]
-    asked = f"stepAt {terms.token(bases, bs)} {place}"
+    asked = f"step_at {terms.token(bases, bs)} {place}"
     after = case.says[2] if case.says[0] == "row" else place
-    return [(asked, step(case.says))] + ([(f"placeAfter {place} ({asked})", after)] if len(bs) <= SMALL else [])
+    return [(asked, step(case.says))] + ([(f"place_after {place} ({asked})", after)] if len(bs) <= SMALL else [])
 
 
 def of_line(case, bases):
     if case.sort == "first":
-        asked = f"firstLine {case.words[0]} {case.words[1]} {terms.answer(*case.words[2:])}"
+        asked = f"first_line {case.words[0]} {case.words[1]} {terms.answer(*case.words[2:])}"
     else:
-        asked = f"rowLine {case.words[0]} {terms.row(case.words[1])}"
+        asked = f"row_line {case.words[0]} {terms.row(case.words[1])}"
     return [(asked, terms.numbers(bytes_of(case.says[0])))]
 
 
 def of_form(case, bases):
     """Whether the field has its form, and of characters where the form ends."""
-    names = {"date": ["dateExists"], "ruleid": ["ruleIdForm", "ruleIdReach"], "label": ["labelForm", "labelReach"]}[case.sort]
+    names = {"date": ["date_exists"], "ruleid": ["rule_id_form", "rule_id_reach"], "label": ["label_form", "label_reach"]}[case.sort]
     says = [terms.truth(case.says[0])] + case.says[1:]
     return [(f"{name} ({terms.numbers(bytes_of(case.words[0]))})", said) for name, said in zip(names, says)]
 
@@ -81,23 +81,23 @@ def of_given(case, bases):
     """The numbers that are given back for an answer, a place or a step."""
     sort, *words = case.words
     if sort == "answer":
-        asked, names = terms.answer(*words), ["numberOf", "secondOf"]
+        asked, names = terms.answer(*words), ["number_of", "second_of"]
     elif sort == "where":
-        asked, names = f"({'At' if words[0] == 'at' else 'Missing'} {words[1]} {words[2]})", ["offsetOf", "lengthOf"]
+        asked, names = f"({'At' if words[0] == 'at' else 'Missing'} {words[1]} {words[2]})", ["offset_of", "length_of"]
     else:
         asked = step(words)
-        names = ["stepNumber", "rowAnswer", "stepSecond", "rowKind", "rowOffset", "rowLength", "rowOwner", "rowRule", "nextOf"]
+        names = ["step_number", "row_answer", "step_second", "row_kind", "row_offset", "row_length", "row_owner", "row_rule", "next_of"]
     return [(f"{name} {asked}", number) for name, number in zip(names, case.says)]
 
 
 def of_example(case, bases):
     """The bytes of an example of a list, the last of them where it holds for any, and what it says of them."""
     examples, turn, sort, bs = *case.words[:3], bytes_of(case.words[3])
-    example = f"(getD {examples} {turn} (date [] true))"
-    laws = [(f"exampleBytes {bs[-1] if bs else 0} {example}", terms.numbers(bs))]
+    example = f"(get_or {examples} {turn} (date [] true))"
+    laws = [(f"example_bytes {bs[-1] if bs else 0} {example}", terms.numbers(bs))]
     if sort == "date":
-        return laws + [(f"exampleDate {example}", terms.truth(case.says[0]))]
-    return laws + [(f"exampleAnswer {example}", terms.answer(*case.says))]
+        return laws + [(f"example_date {example}", terms.truth(case.says[0]))]
+    return laws + [(f"example_answer {example}", terms.answer(*case.says))]
 
 
 def of_parts(case, bases):
@@ -109,9 +109,9 @@ def of_parts(case, bases):
     first, *others = terms.parts_of(words)
     subs = sum(r.split(",")[3] == "0" for r in case.says[1:]) - 1  # the rows that the first one owns, but itself
     started = f"({i} ∷ 0 ∷ 0 ∷ 8 ∷ replicate 4 0 ++ replicate {len(bs) - 8} 7)"
-    return [(f"written {i} {ps}", token), (f"rows {ps}", rows), (f"ruleCount {ps}", str(rules)), (f"ruleRows {rows}", str(rules)),
-            (f"partsOf (sectionsOf {ps})", ps), (f"sectionsEnd (sectionsOf {ps})", str(len(bs))),
-            (f"length (subsOf ({first}) {terms.list_of(others)})", str(subs)),
-            (f"walk {int(count) + 1} {token} 8", rows), (f"walkPlace {count} {token} 8", str(len(bs))),
-            (f"draftAfter (additions {ps} {started}) {started}", token),
+    return [(f"written {i} {ps}", token), (f"rows {ps}", rows), (f"rule_count {ps}", str(rules)), (f"rule_rows {rows}", str(rules)),
+            (f"parts_of (sections_of {ps})", ps), (f"sections_end (sections_of {ps})", str(len(bs))),
+            (f"length (subs_of ({first}) {terms.list_of(others)})", str(subs)),
+            (f"walk {int(count) + 1} {token} 8", rows), (f"walk_place {count} {token} 8", str(len(bs))),
+            (f"draft_after (additions {ps} {started}) {started}", token),
             (f"restate 0 {len(bs)} (set (set {token} 2 9) 3 9)", token), (f"joined ({token} ∷ [] ∷ {token} ∷ [])", f"{token} ++ {token}")]

@@ -1,11 +1,11 @@
 """Bytes, answers, rows and parts as terms of the definitions' language."""
 from answering.cases import bytes_of
 
-KINDS = {"110000": "publicKey", "120000": "rule", "120001": "transportVariant", "120002": "transportRule", "120003": "exportParameters",
-         "120004": "sourceRule", "120005": "tokenParameters", "130000": "name", "140000": "information", "140001": "protection",
-         "140002": "dates", "150000": "applicationData"}
+KINDS = {"110000": "public_key", "120000": "rule", "120001": "transport_variant", "120002": "transport_rule", "120003": "export_parameters",
+         "120004": "source_rule", "120005": "token_parameters", "130000": "name", "140000": "information", "140001": "protection",
+         "140002": "dates", "150000": "application_data"}
 # The kinds whose values are not all runs of bytes, with what makes fields of them.
-FIELDS = {"110000": "publicKeyFields", "120000": "ruleFields", "120003": "exportFields", "140000": "informationFields", "140002": "dateFields"}
+FIELDS = {"110000": "public_key_fields", "120000": "rule_fields", "120003": "export_fields", "140000": "information_fields", "140002": "date_fields"}
 RUN = 6  # so many like bytes are written as a run
 
 

@@ -8,7 +8,7 @@ import re
 
 from mutating import code, prover
 
-SEARCHED = "`search` does not close"  # of a function without a proof file: a need that rattle's own proof leaves open
+SEARCHED = "`search` did not prove"  # of a function without a proof file: a goal that rattle's own proof leaves open
 
 
 def crate_of(mutant):
@@ -33,12 +33,11 @@ def batches(mutants):
 
 
 def texts_with(copy, batch):
-    """The files of a batch as they are, and with all its mutants; the last mutant first, so that lines do not move."""
-    old = {path: copy.read(path) for path in {m.path for m in batch}}
-    new = dict(old)
+    """The files of a batch with all its mutants; the last mutant first, so that lines do not move."""
+    new = {path: copy.read(path) for path in {m.path for m in batch}}
     for m in sorted(batch, key=lambda m: -m.first):
         new[m.path] = m.applied(new[m.path])
-    return old, new
+    return new
 
 
 def stillborn(batch, new, text):
@@ -67,7 +66,8 @@ def own_verdict(text, errors, mutant):
 def check(copy, batch, new):
     """What one check says: verdicts of some mutants, and whether it came as far as the proofs."""
     copy.log.write("".join(f"=== {m.shown()}\n" for m in batch))
-    status, text = copy.dev(crate_of(batch[0]))
+    crate = crate_of(batch[0])
+    status, text = copy.dev(crate, crate)
     if status == 1 and "logic=not-proved" not in text:
         return {m: prover.Verdict("stillborn", error=e) for m, e in stillborn(batch, new, text).items()}, False
     if status not in (0, 1):
@@ -81,14 +81,12 @@ def verdicts_together(copy, batch):
     """Verdicts of the mutants of a batch that several checks of them together decide; the others are to be tried alone."""
     if len(batch) < 2:
         return {}
-    old, new = texts_with(copy, batch)
-    for path, text in new.items():
-        copy.write(path, text)
+    new = texts_with(copy, batch)
+    copy.put_in(new)
     try:
         found, proofs = check(copy, batch, new)
     finally:
-        for path, text in old.items():
-            copy.write(path, text)
+        copy.take_out()
     left = [m for m in batch if m not in found]
     if proofs:
         return found

@@ -3,19 +3,19 @@ import re
 
 from mutating.mutant import Mutant, LITERAL, other_number, numbers_beside, spans_to_mutants
 
-KINDS = ["publicKey", "rule", "transportVariant", "transportRule", "exportParameters", "sourceRule", "tokenParameters",
-         "name", "information", "protection", "dates", "applicationData"]
+KINDS = ["public_key", "rule", "transport_variant", "transport_rule", "export_parameters", "source_rule", "token_parameters",
+         "name", "information", "protection", "dates", "application_data"]
 TESTS = ["leb", "ltb", "eqb"]
 # Old, new, the kind of change, and what the file must import for the new one.
 OPERATORS = [
-    (" && ", " || ", "logic", "_||_"), (" || ", " && ", "logic", "_&&_"),
-    (" + ", " - ", "arithmetic", "_-_"), (" - ", " + ", "arithmetic", "_+_"), (" * ", " + ", "arithmetic", "_+_"),
-    (" / ", " % ", "arithmetic", "_%_"), (" % ", " / ", "arithmetic", "_/_"),
-    (" ≤ ", " < ", "comparison", "_<_"), (" < ", " ≤ ", "comparison", "_≤_"),
+    (" && ", " || ", "logic", "◌||◌"), (" || ", " && ", "logic", "◌&&◌"),
+    (" + ", " - ", "arithmetic", "◌-◌"), (" - ", " + ", "arithmetic", "◌+◌"), (" * ", " + ", "arithmetic", "◌+◌"),
+    (" / ", " % ", "arithmetic", "◌%◌"), (" % ", " / ", "arithmetic", "◌/◌"),
+    (" ≤ ", " < ", "comparison", "◌<◌"), (" < ", " ≤ ", "comparison", "◌≤◌"),
 ]
 ATOM = r"(?:[\w.?]+|\((?:[^()]|\((?:[^()]|\([^()]*\))*\))*\))"
 # Calls whose arguments are exchanged: two that stand behind each other.
-PAIRS = re.compile(r"(?<![\w·])(?:leb|ltb|fault|check|count|zeros|code|between|bytesAt \w+|At|Missing|Refused) "
+PAIRS = re.compile(r"(?<![\w·])(?:leb|ltb|fault|check|count|zeros|code|between|bytes_at \w+|At|Missing|Refused) "
                    rf"({ATOM}) ({ATOM})(?![\w.])")
 
 

@@ -11,10 +11,11 @@ from answering import crate as answers
 
 LATE = 124
 ANSWERS = {"some answers": 5, "answers": 1}  # stages that ask the second reader, each with one of so many cases
-LEFT_OUT = (".git", "__pycache__", "must-fail")
+LEFT_OUT = (".git", "__pycache__", "must-fail", "out")
 ERROR = re.compile(r"^(\S*?/)?(crates/\S+?):(\d+):\d+: error(?:\[[\w-]+\])?: (.*(?:\n  .*)?)$", re.M)
 NOTE = re.compile(r"^note: (\S*?/)?(crates/\S+?):(\d+):\d+: (it is not proved .*)$", re.M)  # of a proof that rattle makes
-FOLLOWS = "was not admitted"  # an error that only follows from another
+IN_CRATE = re.compile(r"^(note: )?(?:\./)?((?:src|specs|proofs)/\S+?:\d+:)", re.M)  # a place as rt check prints it, in the crate's folder
+FOLLOWS = "not admitted"  # an error that only follows from another
 SHAPE = re.compile(r"has no (field )?`|this pattern needs")  # the proof no longer fits the function's places
 
 
@@ -26,17 +27,26 @@ class Verdict:
 
 
 def crates_of(root):
-    """The crates with what each depends on, in the order of crates.txt."""
+    """The crates with what each depends on, in the order of crates.txt. After a name may stand that it is a static library."""
     with open(os.path.join(root, "crates.txt")) as f:
         lines = [l.split("#")[0].split(":") for l in f if ":" in l.split("#")[0]]
-    return {name.strip(): needs.split() for name, needs in lines}
+    return {name.split()[0]: needs.split() for name, needs in lines}
+
+
+def crates_above(root, crate):
+    """The crates that depend on this one, by others too, in the order of crates.txt."""
+    above = {crate}
+    for name, needs in crates_of(root).items():
+        if above & set(needs):
+            above.add(name)
+    return [name for name in crates_of(root) if name in above and name != crate]
 
 
 class Cache:
     """What the prover keeps between checks of one crate, put back after each mutant to what it was without any."""
 
-    def __init__(self, folder):
-        self.folder, self.clean = folder, folder + ".clean"
+    def __init__(self, folder, clean):
+        self.folder, self.clean = folder, clean
         shutil.rmtree(self.clean, ignore_errors=True)
         shutil.copytree(folder, self.clean)
         self.before = self.state()
@@ -64,24 +74,42 @@ class Copy:
     def __init__(self, root, folder, log):
         self.root, self.folder, self.log = root, os.path.join(folder, "copy"), log
         self.format = os.path.join(self.folder, "crates", "format")
-        self.all = os.path.join(folder, "all")  # an empty crate over all libraries
         # What the second reader says of the definitions, for each stage that asks; the last folder is for cases alone.
         self.asked = {stage: os.path.join(folder, stage.replace(" ", "-")) for stage in list(ANSWERS) + ["each answer"]}
-        self.laws = {}
-        self.crates, self.caches = crates_of(root), {}
-        if os.path.isdir(self.folder):  # a folder that was kept: its target stands, the rest is copied anew
-            for name in os.listdir(self.folder):
-                if name != "target":
-                    path = os.path.join(self.folder, name)
-                    shutil.rmtree(path) if os.path.isdir(path) else os.remove(path)
-        without = LEFT_OUT + (("target",) if os.path.isdir(self.folder) else ())
+        self.clean = os.path.join(folder, "clean")
+        self.laws, self.caches = {}, {}
+        self.changed = {}  # the files that have mutants in them, as they were without
+        self.touched = set()  # the stages that were checked with mutants
+        self.clear()
+        without = LEFT_OUT + (("target",) if os.path.isdir(os.path.join(self.folder, "target")) else ())
         shutil.copytree(root, self.folder, ignore=shutil.ignore_patterns(*without), dirs_exist_ok=True, symlinks=True)
+        for crate in crates_of(root):  # the library and the programs, which the tests run
+            for name in (crate, f"lib{crate}.a"):
+                built = os.path.join("crates", crate, "out", name)
+                if os.path.isfile(os.path.join(root, built)):
+                    os.makedirs(os.path.dirname(os.path.join(self.folder, built)), exist_ok=True)
+                    shutil.copy2(os.path.join(root, built), os.path.join(self.folder, built))
+
+    def clear(self):
+        """Of a folder that was kept: target and what the prover keeps for each crate stand, the rest is copied anew."""
+        for base, folders, names in os.walk(self.folder, topdown=False):
+            inside = os.path.relpath(base, self.folder).split(os.sep)
+            if inside[0] == "target" or (inside[0] == "crates" and inside[2:3] == ["out"]):
+                continue
+            for name in names:
+                os.remove(os.path.join(base, name))
+            for name in folders:
+                path = os.path.join(base, name)
+                if os.path.islink(path):
+                    os.remove(path)
+                elif not os.listdir(path):
+                    os.rmdir(path)
 
     def run(self, words, where=None, env=None, seconds=900):
         """A command's exit status and what it printed, at low priority; LATE where it does not end in time."""
         start = time.monotonic()
         ran = subprocess.Popen(["nice", "-n", "19"] + words, cwd=where or self.folder, stdin=subprocess.DEVNULL, start_new_session=True,
-                               stdout=subprocess.PIPE, stderr=subprocess.STDOUT, env={**os.environ, "RT_JOBS": "1", **(env or {})})
+                               stdout=subprocess.PIPE, stderr=subprocess.STDOUT, env={**os.environ, **(env or {})})
         try:
             text, status = ran.communicate(timeout=seconds)[0].decode("utf-8", "replace"), ran.returncode
         except subprocess.TimeoutExpired:
@@ -91,33 +119,51 @@ class Copy:
         self.log.write(f"$ {' '.join(words)[:200]}  # {time.monotonic() - start:.1f} s\n{text}\n")
         return status, text
 
-    def check_words(self, crate):
-        """The command that checks a crate, the folder to run it in, and the crate's cache."""
-        if crate in ANSWERS:
-            where = self.asked[crate]
-            return answers.check_words(where), where, os.path.join(where, "target", "inc", "answers")
-        where = self.all if crate == "every" else self.folder
-        words = self.every() if crate == "every" else ["rt", "dev", crate]
-        return words, where, os.path.join(where, "target", "inc", crate)
+    def check_command(self, crate):
+        """The command that checks a crate, and the folder to run it in."""
+        words, where = answers.check_command(self.asked[crate]) if crate in ANSWERS else (["rt", "check"], os.path.join(self.folder, "crates", crate))
+        return words + ["--jobs", "1"], where
+
+    def check(self, crate):
+        """Checks one crate: the exit status, and what was printed, with places from the top of the copy on."""
+        words, where = self.check_command(crate)
+        status, text = self.run(words, where)
+        return status, IN_CRATE.sub(rf"\1crates/{os.path.basename(where)}/\2", text)
 
     def make_ready(self, crate):
-        """Fills the cache of a crate, which must be proved as it stands."""
+        """Fills the cache of a crate, which must be proved as it stands, without the mutants."""
         if crate in self.caches:
             return
+        inside = {path: self.read(path) for path in self.changed}
+        for path, text in self.changed.items():
+            self.write(path, text)
         if crate in ANSWERS:
             self.ask_second_reader(crate)
-        words, where, cache = self.check_words(crate)
-        status, text = self.run(words, where)
+        status, text = self.check(crate)
         if status != 0:
             raise SystemExit(f"mutants: {crate} is not proved as it stands:\n" + "\n".join(text.splitlines()[-5:]))
-        self.caches[crate] = Cache(cache)
+        where = self.check_command(crate)[1]
+        folders = [os.path.join(os.path.dirname(where), name) for name in ("format", "answers")] if crate in ANSWERS else [where]
+        self.caches[crate] = [Cache(os.path.join(f, "out"), os.path.join(self.clean, crate, os.path.basename(f))) for f in folders]
+        for path, text in inside.items():
+            self.write(path, text)
 
-    def dev(self, crate):
-        """Checks one crate over its cache, which is then as it was before."""
-        words, where, _ = self.check_words(crate)
-        status, text = self.run(words, where)
-        self.caches[crate].restore()
-        return status, text
+    def dev(self, crate, changed):
+        """Checks one crate, over what was kept of it without mutants; `changed` is the crate that has them, the same or one below it."""
+        self.make_ready(crate)
+        if crate in ANSWERS:
+            answers.copy_definitions(self.asked[crate], self.format)
+        self.touched |= {crate, changed}
+        return self.check(crate)
+
+    def runs_as_its_example(self, program):
+        """Whether the program, proved and built anew, prints the file stdout when it reads the file stdin."""
+        where = os.path.join(self.folder, "crates", program)
+        with open(os.path.join(where, "stdin"), "rb") as given, open(os.path.join(where, "stdout"), "rb") as wanted:
+            ran = subprocess.run(["nice", "-n", "19", "rt", "run"], cwd=where, stdin=given, stdout=subprocess.PIPE, stderr=subprocess.PIPE)
+            self.log.write(f"$ rt run  # in {program}\n{ran.stderr.decode('utf-8', 'replace')}\n")
+            good = ran.returncode == 0 and ran.stdout == wanted.read()
+        return good
 
     def ask_second_reader(self, stage):
         """Writes the crate of what the second reader says, with one of so many cases."""
@@ -132,23 +178,24 @@ class Copy:
         if not laws:
             return None
         group, folder = self.laws[stage][laws[0][0]], self.asked["each answer"]
+        os.makedirs(folder, exist_ok=True)
         alone = answers.write_crate(folder, self.format, self.bases, group, 1)
-        failed = answers.failed_laws(self.run(answers.check_words(folder), folder)[1], alone)
+        failed = answers.failed_laws(self.run(*answers.check_command(folder))[1], alone)
         return alone[failed[0][0]][0] if failed else None
 
-    def every(self):
-        """The words that check all libraries in one run, passed as source to an empty crate; but those that need the kit's, which promise nothing."""
-        os.makedirs(os.path.join(self.all, "crates", "every", "src"), exist_ok=True)
-        with open(os.path.join(self.all, "crates.txt"), "w") as f:
-            f.write("every:\n")
-        with open(os.path.join(self.all, "crates", "every", "src", "lib.rt"), "w") as f:
-            f.write("pub fn nothing() {}\n")
-        words = ["rt", "dev", "every"]
-        for name, needs in self.crates.items():
-            file = os.path.join(self.folder, "crates", name, "src", "lib.rt")
-            if os.path.isfile(file) and all(need in self.crates for need in needs):
-                words += ["--lib", f"{name}:{','.join(needs)}={file}"]
-        return words
+    def put_in(self, texts):
+        """Writes files that have mutants in them."""
+        for path, text in texts.items():
+            self.changed.setdefault(path, self.read(path))
+            self.write(path, text)
+
+    def take_out(self):
+        """Writes the files as they were without the mutants, and puts back what the prover then kept."""
+        for path, text in self.changed.items():
+            self.write(path, text)
+        for cache in (cache for stage in self.touched for cache in self.caches.get(stage, [])):
+            cache.restore()
+        self.changed, self.touched = {}, set()
 
     def write(self, path, text):
         with open(os.path.join(self.folder, path), "w") as f:
@@ -193,7 +240,7 @@ def verdict_of_code(status, text):
         return Verdict("could not tell", error=shown_error(errors))
     if "logic=not-proved" not in text:
         return Verdict("stillborn", error=shown_error(errors))
-    function = re.search(r"^fn (\S+): (?:not proved$|no proof)", text, re.M)
+    function = re.search(r"^fn (\S+): (?:not proved|no proof: expected)", text, re.M)
     return refusal(function.group(1) if function else errors[0][0], errors)
 
 
@@ -208,7 +255,7 @@ def verdict_of_answers(copy, stage, status, text):
 
 
 def verdict_of_definition(status, text, path, stage):
-    """What a check says of a definition mutant: of the theorems first, then of all crates."""
+    """What a check says of a definition mutant: of the theorems first, then of the crates above."""
     if status == 0:
         return Verdict("SURVIVED")
     file, line, words = errors_in(text)[0]

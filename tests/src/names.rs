@@ -12,7 +12,7 @@ use words::{capitalised, is_path, split, words, Word};
 
 /// Words that look like names and are none: of the language, of commands and
 /// what they print, of the C calls' parameters, and words with a capital.
-const NO_NAMES: &str = " requires ensures pub rt gcc cargo N rattle-kit-5b-plain \
+const NO_NAMES: &str = " requires ensures pub rt gcc cargo N rattle-kit-13f \
     second token_len table_len draft_len show_token Rattle Rust Rule ";
 
 struct Check<'a> {
@@ -169,9 +169,11 @@ impl<'a> Check<'a> {
     fn name(&mut self, text: &str) {
         if let Some(place) = self.place.clone() {
             self.declared(&place, text);
-        } else if text.contains('-') {
+        } else if self.is_crate(text) {
+            // A crate's name stands for itself.
+        } else if text.contains('_') {
             self.declared("crates/format/proofs/Main.antt", text);
-        } else if !self.is_crate(text) {
+        } else {
             self.file_of_format(text, "no file or crate is named before it");
         }
     }

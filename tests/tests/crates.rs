@@ -27,7 +27,9 @@ fn listed() -> Vec<Listed> {
         if let Some(comment) = line.strip_prefix("# ") {
             let start = comment.split(':').next().unwrap_or_default();
             family = start.ends_with('_').then(|| start.to_string());
-        } else if let Some((name, needs)) = line.split_once(':') {
+        } else if let Some((head, needs)) = line.split_once(':') {
+            // After the name may stand that it is a static library.
+            let name = head.split_whitespace().next().unwrap_or_default();
             found.push(Listed {
                 family: family.clone(),
                 name: name.to_string(),
@@ -101,11 +103,14 @@ fn the_readme_lists_the_crates_in_the_same_order() {
     assert_eq!(described, names);
 }
 
-/// The Rattle sources of a folder and of those in it.
+/// The Rattle sources of a folder and of those in it, but for what the prover
+/// keeps in `out`.
 fn sources(folder: &Path, found: &mut Vec<PathBuf>) {
     for entry in read_dir(folder).expect("a folder").flatten() {
         let path = entry.path();
-        if path.is_dir() {
+        if path.is_dir() && path.ends_with("out") {
+            continue;
+        } else if path.is_dir() {
             sources(&path, found);
         } else if path.extension().is_some_and(|e| e == "rt" || e == "antt") {
             found.push(path);
@@ -120,12 +125,12 @@ const SAID: &[&str] = &[
     "format/src/lib.rt: pub const ROWS: usize = 300;",
     "format/specs/Rules.antt: longest = 3500",
     "read_rule_ids/src/lib.rt: pub const ID_PLACES: usize = 704;",
-    "read_rule_ids/specs/Keys.antt: idPlaces = 704",
-    "format/proofs/Main.antt: pub at-most-300-rows : (bs : List ℕ) (l : Legal bs) → length (rows (l .parts)) ≤ 300",
-    "format/proofs/Main.antt: at-most-300-rows bs l = subst (λ (n : ℕ). n ≤ 300) (sym (Rows.row-count (l .parts))) (Rows.few-rows bs l)",
-    "format/proofs/Main.antt: pub table-of-1500 : (bs t : List ℕ) (l : Legal bs) → 1500 ≤ length t → tableAnswer bs t ≡ Accepted (length (rows (l .parts)))",
-    "format/proofs/Tables.antt: pub room-for-any : (bs t : List ℕ) (l : Legal bs) → length (rows (l .parts)) ≤ 300 → 1500 ≤ length t",
-    "format/proofs/Rows.antt: pub few-rows : (bs : List ℕ) (l : Legal bs) → length (l .parts) ≤ 300",
+    "read_rule_ids/specs/Keys.antt: id_places = 704",
+    "format/proofs/Main.antt: pub at_most_300_rows : (bs : List ℕ) (l : Legal bs) → length (rows l.parts) ≤ 300",
+    "format/proofs/Main.antt: at_most_300_rows bs l = subst (λ (n : ℕ). n ≤ 300) (sym (Rows.row_count_is l.parts)) (Rows.few_rows bs l)",
+    "format/proofs/Main.antt: pub table_of_1500 : (bs t : List ℕ) (l : Legal bs) → 1500 ≤ length t → table_answer bs t ≡ Accepted (length (rows l.parts))",
+    "format/proofs/Tables.antt: pub room_for_any : (bs t : List ℕ) (l : Legal bs) → length (rows l.parts) ≤ 300 → 1500 ≤ length t",
+    "format/proofs/Rows.antt: pub few_rows : (bs : List ℕ) (l : Legal bs) → length l.parts ≤ 300",
 ];
 
 /// The numbers in a line of code, without its comment.

@@ -22,7 +22,7 @@ fn what_the_documents_name_is_there() {
 /// A made repository with a few names of each sort.
 fn repository(name: &str) -> Folder {
     let folder = Folder::new(name);
-    let law = "pub a-law : T\nhidden-law : T\n-- pub said-law : T\n";
+    let law = "pub a_law : T\nhidden_law : T\n-- pub said_law : T\n";
     let definitions = "pub record Legal (bs : T) : Type 0 where\n  pub form : T\n\
         unfoldable pub need : T\npub data Item : Type 0 where\n  code own : Item\n";
     let call = "pub extern \"C\" fn tb_read(token: &[u8]) -> u32\n";
@@ -58,8 +58,8 @@ fn right_names_are_found() {
     let folder = repository("right");
     for words in [
         "wrong_count; row_too_many (reading), wrong_count (format); crates/reading/must-fail",
-        "Main `a-law`; Legal `Legal`, `form`, `need false`, `code`, `own`; specs/Legal",
-        "`a-law`; `form` of `crates/format/specs/Legal.antt`; \"Any\" word",
+        "Main `a_law`; Legal `Legal`, `form`, `need false`, `code`, `own`; specs/Legal",
+        "`a_law`; `form` of `crates/format/specs/Legal.antt`; \"Any\" word",
         "crates/reading `read`, `draft::read_draft`; `reading::draft::read_draft`, `read`",
         "contracts of crates/reading, format, trusted_block; `tb_read`, `rt check reading`",
         "library.rs `legal_tokens`; tests/tests/library.rs; include/trusted_block.h",
@@ -81,11 +81,11 @@ wrong_count, row_too_many (reading) => edit wrong_count: there is no crates/read
 wrong_count (format, reading) => edit wrong_count: there is no crates/reading/must-fail/wrong_count.edit
 row_too_many => edit row_too_many: there is no crates/format/must-fail/row_too_many.edit
 reading/must-fail => reading/must-fail: there is no reading/must-fail
-Main `b-law` => b-law: not declared in crates/format/proofs/Main.antt
-Main `hidden-law` => hidden-law: not declared in crates/format/proofs/Main.antt
+Main `b_law` => b_law: not declared in crates/format/proofs/Main.antt
+Main `hidden_law` => hidden_law: not declared in crates/format/proofs/Main.antt
 Main `form` => form: not declared in crates/format/proofs/Main.antt
-`said-law` => said-law: not declared in crates/format/proofs/Main.antt
-Legal `a-law` => a-law: not declared in crates/format/specs/Legal.antt
+`said_law` => said_law: not declared in crates/format/proofs/Main.antt
+Legal `a_law` => a_law: not declared in crates/format/specs/Legal.antt
 Legal `other false` => other: not declared in crates/format/specs/Legal.antt
 Legal `form`; `need` => need: no file or crate is named before it
 Legally => Legally: no file of crates/format has this name

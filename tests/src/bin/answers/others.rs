@@ -251,7 +251,7 @@ fn examples_of_dates(cases: &mut Cases) {
     for (turn, (flags, activation, expiration)) in tokens.into_iter().enumerate() {
         let dates = dates_with_flags(flags, activation, expiration);
         let token = token_of(&[information(&[protection(), dates])]);
-        example(cases, "datesRead", turn, &token);
+        example(cases, "dates_read", turn, &token);
     }
 }
 
