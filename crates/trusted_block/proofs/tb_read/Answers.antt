@@ -1,0 +1,10 @@
+-- The reading, as two numbers.
+use mathlib.Core.Path.{ap, ◌∙◌}
+use Rattle.format.specs.GivenNumbers.{number_of, second_of}
+use Rattle.trusted_block.proofs.tb_read.Goals as goal
+
+pub returns : goal.returns
+returns c = record {
+  number = c.give.ensures.number ∙ ap number_of c.read.ensures;
+  second = c.give.ensures.second ∙ ap second_of c.read.ensures;
+}
