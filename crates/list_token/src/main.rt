@@ -5,14 +5,15 @@ ghost use Rattle.std.specs.Prelude.{◌+◌, ◌≤◌, length};
 ghost use Rattle.format.specs.Rules.{longest};
 
 use format::{Answer, COLUMNS, LONGEST, ROWS, Row, TABLE};
-use libc::STDIN_FILENO;
-use list_output::{write_first, write_row};
+use list_output::{read_full, write_first, write_row};
 use reading::read_table;
+use std::io;
+use std::io::Write;
 
 // Writes the line of row n of a table.
-fn write_nth(table: &[u32; TABLE], n: usize) {
+fn write_nth<W: Write>(out: &mut W, table: &[u32; TABLE], n: usize) -> io::Result<()> {
     if ROWS <= n {
-        return;
+        return Ok(());
     }
     let i = COLUMNS * n;
     let row = Row {
@@ -22,16 +23,15 @@ fn write_nth(table: &[u32; TABLE], n: usize) {
         owner: table[i + 3],
         rule: table[i + 4],
     };
-    write_row(n as u32, row);
+    write_row(out, n as u32, row)
 }
 
 // Writes the lines of the first n rows of a table.
-fn write_rows(table: &[u32; TABLE], n: usize) {
-    let mut i: usize = 0;
-    while i < n {
-        write_nth(table, i);
-        i += 1;
+fn write_rows<W: Write>(out: &mut W, table: &[u32; TABLE], n: usize) -> io::Result<()> {
+    for i in 0..n {
+        write_nth(out, table, i)?;
     }
+    Ok(())
 }
 
 // The id of a token, 0 where there is none.
@@ -43,7 +43,7 @@ fn id_of(token: &[u8]) -> u8 {
 }
 
 // Writes the listing of a token.
-fn list(token: &[u8])
+fn list<W: Write>(out: &mut W, token: &[u8]) -> io::Result<()>
     requires { length token.now ≤ longest + 1 }
 {
     let mut table = [0u32; TABLE];
@@ -52,17 +52,17 @@ fn list(token: &[u8])
     let length = token.len() as u32;
     match answer {
         Answer::Refused(number, place) => {
-            write_first(id, length, Answer::Refused(number, place));
+            write_first(out, id, length, Answer::Refused(number, place))
         }
         Answer::Accepted(rows) => {
-            write_first(id, length, Answer::Accepted(rows));
-            write_rows(&table, rows as usize);
+            write_first(out, id, length, Answer::Accepted(rows))?;
+            write_rows(out, &table, rows as usize)
         }
     }
 }
 
-fn main() {
+fn main(rt: HostRuntime) -> io::Result<()> {
     let mut token = [0u8; LONGEST + 1];
-    let n = io::read_full(STDIN_FILENO, &mut token);
-    list(&token[..n]);
+    let n = read_full(&mut rt.reader(), &mut token);
+    list(&mut io::writer(&rt), &token[..n])
 }
