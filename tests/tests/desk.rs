@@ -205,14 +205,16 @@ fn output_that_cannot_be_written() {
 /// that copies the program.
 fn folder_with_list() -> Folder {
     let folder = Folder::new("build");
-    for name in ["bin", "crates", "target/bin"] {
+    for name in ["bin", "crates/list_token/src", "crates/list_token/out"] {
         create_dir_all(folder.0.join(name)).expect("a folder can be made");
     }
     folder.file("crates.txt", b"");
-    folder.file("crates/main.rt", b"");
+    folder.file("crates/list_token/src/main.rt", b"");
     folder.file("list", &read(project().join("list")).expect("it is there"));
     let program = list_token().display().to_string();
-    let script = format!("#!/bin/sh\necho built \"$@\"\ncp '{program}' target/bin/list_token\n");
+    let script = format!(
+        "#!/bin/sh\necho built \"$@\" >&2\ncp '{program}' out/list_token\nout/list_token\n"
+    );
     folder.file("bin/rt", script.as_bytes());
     folder
 }
@@ -231,12 +233,21 @@ fn the_program_is_built_when_a_source_is_newer() {
         assert!(good, "{output:?}");
         String::from_utf8(output.stderr).expect("plain")
     };
-    let built = "built check list_token\n";
-    let old = "touch -d 2020-01-01 crates crates/main.rt crates.txt";
+    let built = "built run\n";
+    let source = "crates/list_token/src/main.rt";
+    let old = format!("touch -d 2020-01-01 crates/*/src {source} crates.txt");
+    let touched = format!("touch -d '1 minute' {source}");
     assert_eq!(run(&format!("chmod +x list bin/rt; {old}")), built);
     assert_eq!(run("true"), "");
-    assert_eq!(run("touch -d '1 minute' crates/main.rt"), built);
-    assert_eq!(run(old), "");
+    assert_eq!(run(&touched), built);
+    assert_eq!(run(&old), "");
     assert_eq!(run("touch -d '1 minute' crates.txt"), built);
-    assert_eq!(run(&format!("{old}; rm target/bin/list_token")), built);
+    assert_eq!(
+        run(&format!("{old}; rm crates/list_token/out/list_token")),
+        built
+    );
+    // What rt makes is no source.
+    let made =
+        "touch -d '1 minute' crates/list_token/out/kept crates/list_token/out crates/list_token";
+    assert_eq!(run(made), "");
 }
