@@ -63,6 +63,6 @@ fn list<W: Write>(out: &mut W, token: &[u8]) -> io::Result<()>
 
 fn main(rt: HostRuntime) -> io::Result<()> {
     let mut token = [0u8; LONGEST + 1];
-    let n = read_full(&mut rt.reader(), &mut token);
+    let n = read_full(&mut rt.stdin(), &mut token);
     list(&mut io::writer(&rt), &token[..n])
 }

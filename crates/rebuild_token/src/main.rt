@@ -9,8 +9,7 @@ use format::{Answer, LONGEST};
 use list_output::{read_full, write_first};
 use reading::read;
 use rebuild::rebuild;
-use std::fmt;
-use std::io;
+use std::{fmt, io};
 use views::{view, view_answer};
 
 // What the bytes of a draft hold before.
@@ -104,7 +103,7 @@ fn rebuild_whole(rt: &impl Print, token: &[u8], draft: &mut [u8]) -> io::Result<
 
 fn main(rt: HostRuntime) -> io::Result<()> {
     let mut token = [0u8; LONGEST + 1];
-    let n = read_full(&mut rt.reader(), &mut token);
+    let n = read_full(&mut rt.stdin(), &mut token);
     let mut draft = [UNUSED; DRAFT];
     rebuild_short(&rt, &token[..n], &mut draft)?;
     rebuild_whole(&rt, &token[..n], &mut draft)
