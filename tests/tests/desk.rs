@@ -184,8 +184,8 @@ fn closed_input() {
     assert_eq!(output.status.code(), Some(1));
 }
 
-/// A listing that cannot be written is no success; the program alone does not
-/// notice.
+/// A listing that cannot be written is no success, nor is it of the program
+/// alone.
 #[test]
 fn output_that_cannot_be_written() {
     let full = || File::create("/dev/full").expect("Linux has it");
@@ -197,8 +197,14 @@ fn output_that_cannot_be_written() {
     }
     let mut alone = Command::new(list_token());
     alone.stdin(File::open(&token).expect("a sample"));
-    let status = alone.stdout(full()).status().expect("it runs");
-    assert_eq!(status.code(), Some(0));
+    let output = alone.stdout(full()).stderr(Stdio::piped()).spawn();
+    let output = output
+        .expect("it runs")
+        .wait_with_output()
+        .expect("it ends");
+    assert_eq!(output.status.code(), Some(1));
+    let message = String::from_utf8(output.stderr).expect("plain text");
+    assert!(message.contains("No space left on device"), "{message}");
 }
 
 /// A folder with what list needs: a source, and a stand-in for the toolchain
