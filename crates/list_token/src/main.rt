@@ -1,8 +1,13 @@
 // Program: reads one token from standard input, at most 3,501 bytes, and writes its listing to standard output.
 #![tactic(auto)]
 
-ghost use Rattle.std.specs.Prelude.{◌+◌, ◌≤◌, length};
+ghost use Rattle.std.specs.Prelude.{◌≡◌, ◌+◌, ◌*◌, ◌≤◌, length, OnOk};
+ghost use Rattle.std.specs.Io.KnownBytes.{Appends};
 ghost use Rattle.format.specs.Rules.{longest};
+ghost use Rattle.format.specs.Reading.{id_of};
+ghost use Rattle.format.specs.Table.{columns};
+ghost use Rattle.format.specs.Lines.{row_line};
+ghost use Rattle.list_token.specs.Listing.{row_in, table_lines, listing};
 
 use format::{Answer, COLUMNS, LONGEST, ROWS, Row, TABLE};
 use list_output::{read_full, write_first, write_row};
@@ -11,7 +16,10 @@ use std::io;
 use std::io::Write;
 
 // Writes the line of row n of a table.
-fn write_nth<W: Write>(out: &mut W, table: &[u32; TABLE], n: usize) -> io::Result<()> {
+fn write_nth<W: Write>(out: &mut W, table: &[u32; TABLE], n: usize) -> io::Result<()>
+    ensures { columns * (n + 1) ≤ length table.now →
+        OnOk result (Appends (W.contents out.old) (W.contents out.new) (row_line n (row_in table.now n))) }
+{
     if ROWS <= n {
         return Ok(());
     }
@@ -27,7 +35,10 @@ fn write_nth<W: Write>(out: &mut W, table: &[u32; TABLE], n: usize) -> io::Resul
 }
 
 // Writes the lines of the first n rows of a table.
-fn write_rows<W: Write>(out: &mut W, table: &[u32; TABLE], n: usize) -> io::Result<()> {
+fn write_rows<W: Write>(out: &mut W, table: &[u32; TABLE], n: usize) -> io::Result<()>
+    ensures { columns * n ≤ length table.now →
+        OnOk result (Appends (W.contents out.old) (W.contents out.new) (table_lines table.now 0 n)) }
+{
     for i in 0..n {
         write_nth(out, table, i)?;
     }
@@ -35,7 +46,9 @@ fn write_rows<W: Write>(out: &mut W, table: &[u32; TABLE], n: usize) -> io::Resu
 }
 
 // The id of a token, 0 where there is none.
-fn id_of(token: &[u8]) -> u8 {
+fn id_of(token: &[u8]) -> u8
+    ensures { result ≡ id_of token.now }
+{
     if token.len() == 0 {
         return 0;
     }
@@ -45,6 +58,7 @@ fn id_of(token: &[u8]) -> u8 {
 // Writes the listing of a token.
 fn list<W: Write>(out: &mut W, token: &[u8]) -> io::Result<()>
     requires { length token.now ≤ longest + 1 }
+    ensures { OnOk result (Appends (W.contents out.old) (W.contents out.new) (listing token.now)) }
 {
     let mut table = [0u32; TABLE];
     let answer = read_table(token, &mut table);
