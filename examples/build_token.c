@@ -5,9 +5,9 @@
  *
  * Exit status: 0 written, 1 a call refused, 2 the file cannot be written.
  *
- * Build it from the project's folder, after `rt staticlib trusted_block`:
+ * Build it from the project's folder, after `rt lib` in crates/trusted_block:
  *
- *     gcc -std=c99 -Iinclude examples/build_token.c target/staticlib/libtrusted_block.a -o build_token
+ *     gcc -std=c99 -Iinclude examples/build_token.c crates/trusted_block/out/libtrusted_block.a -o build_token
  */
 #include <stdio.h>
 #include <string.h>

@@ -5,9 +5,9 @@
  *
  * Exit status: 0 accepted, 1 refused, 2 the file cannot be read.
  *
- * Build it from the project's folder, after `rt staticlib trusted_block`:
+ * Build it from the project's folder, after `rt lib` in crates/trusted_block:
  *
- *     gcc -std=c99 -Iinclude examples/show_token.c target/staticlib/libtrusted_block.a -o show_token
+ *     gcc -std=c99 -Iinclude examples/show_token.c crates/trusted_block/out/libtrusted_block.a -o show_token
  */
 #include <stdio.h>
 #include <stdlib.h>

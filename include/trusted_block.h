@@ -1,7 +1,7 @@
 /*
  * Trusted blocks: reading a token, the fields of its parts, and writing one.
  *
- * Link with libtrusted_block.a (x86-64), which `rt staticlib trusted_block` puts into target/staticlib.
+ * Link with libtrusted_block.a (x86-64), which `rt lib` puts into crates/trusted_block/out when run in crates/trusted_block.
  * examples/show_token.c reads with these calls, examples/build_token.c writes.
  *
  * ANSWERS. Each call returns a number: 0 for accepted, else the number of the refusal (the list below).

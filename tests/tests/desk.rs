@@ -184,8 +184,8 @@ fn closed_input() {
     assert_eq!(output.status.code(), Some(1));
 }
 
-/// A listing that cannot be written is no success; the program alone does not
-/// notice.
+/// A listing that cannot be written is no success, nor is it of the program
+/// alone.
 #[test]
 fn output_that_cannot_be_written() {
     let full = || File::create("/dev/full").expect("Linux has it");
@@ -197,22 +197,30 @@ fn output_that_cannot_be_written() {
     }
     let mut alone = Command::new(list_token());
     alone.stdin(File::open(&token).expect("a sample"));
-    let status = alone.stdout(full()).status().expect("it runs");
-    assert_eq!(status.code(), Some(0));
+    let output = alone.stdout(full()).stderr(Stdio::piped()).spawn();
+    let output = output
+        .expect("it runs")
+        .wait_with_output()
+        .expect("it ends");
+    assert_eq!(output.status.code(), Some(1));
+    let message = String::from_utf8(output.stderr).expect("plain text");
+    assert!(message.contains("No space left on device"), "{message}");
 }
 
 /// A folder with what list needs: a source, and a stand-in for the toolchain
 /// that copies the program.
 fn folder_with_list() -> Folder {
     let folder = Folder::new("build");
-    for name in ["bin", "crates", "target/bin"] {
+    for name in ["bin", "crates/list_token/src", "crates/list_token/out"] {
         create_dir_all(folder.0.join(name)).expect("a folder can be made");
     }
     folder.file("crates.txt", b"");
-    folder.file("crates/main.rt", b"");
+    folder.file("crates/list_token/src/main.rt", b"");
     folder.file("list", &read(project().join("list")).expect("it is there"));
     let program = list_token().display().to_string();
-    let script = format!("#!/bin/sh\necho built \"$@\"\ncp '{program}' target/bin/list_token\n");
+    let script = format!(
+        "#!/bin/sh\necho built \"$@\" >&2\ncp '{program}' out/list_token\nout/list_token\n"
+    );
     folder.file("bin/rt", script.as_bytes());
     folder
 }
@@ -231,12 +239,21 @@ fn the_program_is_built_when_a_source_is_newer() {
         assert!(good, "{output:?}");
         String::from_utf8(output.stderr).expect("plain")
     };
-    let built = "built check list_token\n";
-    let old = "touch -d 2020-01-01 crates crates/main.rt crates.txt";
+    let built = "built run\n";
+    let source = "crates/list_token/src/main.rt";
+    let old = format!("touch -d 2020-01-01 crates/*/src {source} crates.txt");
+    let touched = format!("touch -d '1 minute' {source}");
     assert_eq!(run(&format!("chmod +x list bin/rt; {old}")), built);
     assert_eq!(run("true"), "");
-    assert_eq!(run("touch -d '1 minute' crates/main.rt"), built);
-    assert_eq!(run(old), "");
+    assert_eq!(run(&touched), built);
+    assert_eq!(run(&old), "");
     assert_eq!(run("touch -d '1 minute' crates.txt"), built);
-    assert_eq!(run(&format!("{old}; rm target/bin/list_token")), built);
+    assert_eq!(
+        run(&format!("{old}; rm crates/list_token/out/list_token")),
+        built
+    );
+    // What rt makes is no source.
+    let made =
+        "touch -d '1 minute' crates/list_token/out/kept crates/list_token/out crates/list_token";
+    assert_eq!(run(made), "");
 }

@@ -5,7 +5,7 @@ mod common;
 
 use common::folder::Folder;
 use common::project;
-use std::fs::{create_dir, read, read_dir, remove_file, set_permissions, Permissions};
+use std::fs::{create_dir_all, read, read_dir, remove_file, set_permissions, Permissions};
 use std::os::unix::fs::{symlink, PermissionsExt};
 use std::path::PathBuf;
 use std::process::{Command, Stdio};
@@ -16,10 +16,23 @@ const TOOLS: [&str; 11] = [
     "sh", "bash", "awk", "cp", "dirname", "grep", "mktemp", "rm", "tail", "tee", "timeout",
 ];
 
+/// The toolchain: `rt ci` with no more words at the top, `rt lib` in the folder
+/// of the library.
+const RT: &str = "\
+case $*,${PWD##*/} in
+ci,*)
+    [ -f .ci/run ] || exit 1
+    echo 'rt: ok; must-fail edits: 4 refused, 1 of them only by a limit; done'
+    echo 7 passed, 0 failed
+    ;;
+version,* | lib,trusted_block) ;;
+*) exit 1 ;;
+esac";
+
 /// All is well: 7 proofs, the library, 5 and 4 tests in Rust, the answers, and
 /// 3 tests in C are 21.
 const WELL: [(&str, &str); 9] = [
-    ("bin/rt", "[ $1 = ci ] && echo 7 passed, 0 failed; true"),
+    ("bin/rt", RT),
     (
         "bin/cargo",
         "echo 'ok. 5 passed; 0 failed;'; echo 'ok. 4 passed; 0 failed;'",
@@ -51,7 +64,9 @@ impl Gate {
         };
         let script = read(project().join(".ci/run")).expect("the gate");
         gate.folder.file(".ci/run", &script);
-        create_dir(gate.folder.0.join("tmp")).expect("a folder can be made");
+        for name in ["tmp", "crates/trusted_block"] {
+            create_dir_all(gate.folder.0.join(name)).expect("a folder can be made");
+        }
         WELL.iter()
             .for_each(|(name, script)| gate.put(name, script));
         for tool in TOOLS {
@@ -185,7 +200,7 @@ fn what_is_needed_is_missing() {
 const FAILING: &str = "\
 bin/rt: [ $1 = ci ] && echo 6 passed, 1 failed && exit 1; true => 20 passed, 1 failed
 bin/rt: [ $1 = ci ] && echo 7 passed, 0 failed && exit 1; true => 21 passed, 1 failed
-bin/rt: [ $1 = staticlib ] && exit 1; echo 7 passed, 0 failed => 20 passed, 1 failed
+bin/rt: [ $1 = lib ] && exit 1; echo 7 passed, 0 failed => 20 passed, 1 failed
 bin/rt: true => 14 passed, 1 failed
 bin/cargo: echo '8 passed; 1 failed;'; exit 101 => 20 passed, 1 failed
 bin/cargo: exit 101 => 12 passed, 1 failed
@@ -193,6 +208,27 @@ bin/cargo: true => 12 passed, 1 failed
 tests/answers: exit 1 => 20 passed, 1 failed
 tests/c/run: echo 2 passed, 2 failed; exit 1 => 20 passed, 2 failed
 tests/c/run: true => 18 passed, 1 failed";
+
+/// Edits that cannot be tried fail the gate, though `rt ci` passes over them.
+#[test]
+fn edits_are_bad() {
+    for (said, bad, last) in [
+        ("4 refused, 2 bad; done", 2, "21 passed, 2 failed"),
+        (
+            "4 refused, 1 of them only by a limit, 1 bad; done",
+            1,
+            "21 passed, 1 failed",
+        ),
+        ("0 refused, 10 bad; done", 10, "21 passed, 10 failed"),
+    ] {
+        let gate = Gate::new();
+        let line = "4 refused, 1 of them only by a limit; done";
+        gate.put("bin/rt", &RT.replace(line, said));
+        let (status, lines) = gate.run();
+        let told = format!("FAILED: bad must-fail edits: {bad}; each is named above by BAD EDIT");
+        assert_eq!((status, end(&lines)), (1, [told.as_str(), last]));
+    }
+}
 
 #[test]
 fn a_stage_fails() {

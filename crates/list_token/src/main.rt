@@ -1,18 +1,27 @@
 // Program: reads one token from standard input, at most 3,501 bytes, and writes its listing to standard output.
 #![tactic(auto)]
 
-ghost use Rattle.std.specs.Prelude.{◌+◌, ◌≤◌, length};
+ghost use Rattle.std.specs.Prelude.{◌≡◌, ◌+◌, ◌*◌, ◌≤◌, length, OnOk};
+ghost use Rattle.std.specs.Io.KnownBytes.{Appends};
 ghost use Rattle.format.specs.Rules.{longest};
+ghost use Rattle.format.specs.Reading.{id_of};
+ghost use Rattle.format.specs.Table.{columns};
+ghost use Rattle.format.specs.Lines.{row_line};
+ghost use Rattle.list_token.specs.Listing.{row_in, table_lines, listing};
 
 use format::{Answer, COLUMNS, LONGEST, ROWS, Row, TABLE};
-use libc::STDIN_FILENO;
-use list_output::{write_first, write_row};
+use list_output::{read_full, write_first, write_row};
 use reading::read_table;
+use std::io;
+use std::io::Write;
 
 // Writes the line of row n of a table.
-fn write_nth(table: &[u32; TABLE], n: usize) {
+fn write_nth<W: Write>(out: &mut W, table: &[u32; TABLE], n: usize) -> io::Result<()>
+    ensures { columns * (n + 1) ≤ length table.now →
+        OnOk result (Appends (W.contents out.old) (W.contents out.new) (row_line n (row_in table.now n))) }
+{
     if ROWS <= n {
-        return;
+        return Ok(());
     }
     let i = COLUMNS * n;
     let row = Row {
@@ -22,20 +31,24 @@ fn write_nth(table: &[u32; TABLE], n: usize) {
         owner: table[i + 3],
         rule: table[i + 4],
     };
-    write_row(n as u32, row);
+    write_row(out, n as u32, row)
 }
 
 // Writes the lines of the first n rows of a table.
-fn write_rows(table: &[u32; TABLE], n: usize) {
-    let mut i: usize = 0;
-    while i < n {
-        write_nth(table, i);
-        i += 1;
+fn write_rows<W: Write>(out: &mut W, table: &[u32; TABLE], n: usize) -> io::Result<()>
+    ensures { columns * n ≤ length table.now →
+        OnOk result (Appends (W.contents out.old) (W.contents out.new) (table_lines table.now 0 n)) }
+{
+    for i in 0..n {
+        write_nth(out, table, i)?;
     }
+    Ok(())
 }
 
 // The id of a token, 0 where there is none.
-fn id_of(token: &[u8]) -> u8 {
+fn id_of(token: &[u8]) -> u8
+    ensures { result ≡ id_of token.now }
+{
     if token.len() == 0 {
         return 0;
     }
@@ -43,8 +56,9 @@ fn id_of(token: &[u8]) -> u8 {
 }
 
 // Writes the listing of a token.
-fn list(token: &[u8])
+fn list<W: Write>(out: &mut W, token: &[u8]) -> io::Result<()>
     requires { length token.now ≤ longest + 1 }
+    ensures { OnOk result (Appends (W.contents out.old) (W.contents out.new) (listing token.now)) }
 {
     let mut table = [0u32; TABLE];
     let answer = read_table(token, &mut table);
@@ -52,17 +66,17 @@ fn list(token: &[u8])
     let length = token.len() as u32;
     match answer {
         Answer::Refused(number, place) => {
-            write_first(id, length, Answer::Refused(number, place));
+            write_first(out, id, length, Answer::Refused(number, place))
         }
         Answer::Accepted(rows) => {
-            write_first(id, length, Answer::Accepted(rows));
-            write_rows(&table, rows as usize);
+            write_first(out, id, length, Answer::Accepted(rows))?;
+            write_rows(out, &table, rows as usize)
         }
     }
 }
 
-fn main() {
+fn main(rt: HostRuntime) -> io::Result<()> {
     let mut token = [0u8; LONGEST + 1];
-    let n = io::read_full(STDIN_FILENO, &mut token);
-    list(&token[..n]);
+    let n = read_full(&mut rt.stdin(), &mut token);
+    list(&mut io::writer(&rt), &token[..n])
 }

@@ -68,6 +68,7 @@ fn place_line(out: &mut [u8], line: &[u8]) -> Answer
 pub fn first_line(out: &mut [u8], id: u8, bytes: u32, answer: Answer) -> Answer
     ensures answer { result ≡ line_answer (first_line id bytes answer) out.old }
     ensures buffer { out.new ≡ line_in (first_line id bytes answer) out.old }
+    ensures fits { length (first_line id bytes answer) ≤ 96 }
 {
     let mut line = [0u8; LINE];
     let n = put_first(&mut line, id, bytes, answer);
@@ -78,6 +79,7 @@ pub fn first_line(out: &mut [u8], id: u8, bytes: u32, answer: Answer) -> Answer
 pub fn row_line(out: &mut [u8], place: u32, row: Row) -> Answer
     ensures answer { result ≡ line_answer (row_line place row) out.old }
     ensures buffer { out.new ≡ line_in (row_line place row) out.old }
+    ensures fits { length (row_line place row) ≤ 96 }
 {
     let mut line = [0u8; LINE];
     let n = put_row(&mut line, place, row);

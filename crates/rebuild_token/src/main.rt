@@ -6,10 +6,10 @@
 ghost use Rattle.std.specs.Prelude.{◌≤◌, length};
 
 use format::{Answer, LONGEST};
-use libc::{STDIN_FILENO, STDOUT_FILENO};
-use list_output::write_first;
+use list_output::{read_full, write_first};
 use reading::read;
 use rebuild::rebuild;
+use std::{fmt, io};
 use views::{view, view_answer};
 
 // What the bytes of a draft hold before.
@@ -18,64 +18,57 @@ const UNUSED: u8 = 0xAA;
 // The bytes of the draft: more than any token has.
 const DRAFT: usize = LONGEST + 100;
 
-// A byte as a number of 64 bits.
-fn wide(b: u8) -> u64 {
-    b as u64
-}
+// Bytes that are written in hexadecimal, two digits each.
+#[derive(Drop)]
+struct Hexadecimal<'a>(&'a [u8]);
 
-// Writes bytes in hexadecimal, two digits each.
-fn write_bytes(bytes: &[u8]) {
-    for i in 0..bytes.len() {
-        io::print_hex(STDOUT_FILENO, wide(bytes[i]), 2);
+impl<'a> fmt::Display for Hexadecimal<'a> {
+    fn fmt<W: fmt::Write>(&self, f: &mut fmt::Formatter<W>) -> fmt::Result {
+        for b in self.0 {
+            write!(f, "{b:02x}")?;
+        }
+        Ok(())
     }
 }
 
 // Writes the line of a field where the row has a field of this number; an empty one is there too.
-fn write_field(token: &[u8], row: u32, field: u32) {
+fn write_field(rt: &impl Print, token: &[u8], row: u32, field: u32) -> io::Result<()> {
     let a = view_answer(token, row, field);
     let Answer::Accepted(_zero) = a else {
-        return;
+        return Ok(());
     };
-    io::print_decimal(STDOUT_FILENO, row as u64);
-    io::write_all(STDOUT_FILENO, b" ");
-    io::print_decimal(STDOUT_FILENO, field as u64);
-    io::write_all(STDOUT_FILENO, b" ");
-    write_bytes(view(token, row, field));
-    io::write_all(STDOUT_FILENO, b"\n");
+    let bytes = Hexadecimal(view(token, row, field));
+    println!(rt; "{row} {field} {bytes}")
 }
 
 // Writes the lines of the fields of a row. No kind has more than eleven.
-fn write_row_fields(token: &[u8], row: u32) {
+fn write_row_fields(rt: &impl Print, token: &[u8], row: u32) -> io::Result<()> {
     for field in 0..11 {
-        write_field(token, row, field);
+        write_field(rt, token, row, field)?;
     }
+    Ok(())
 }
 
 // Writes the first line of a rebuilt token and the lines of its fields.
-fn write_rebuilt(token: &[u8], length: u32) {
+fn write_rebuilt(rt: &impl Print, token: &[u8], length: u32) -> io::Result<()> {
     if token.len() == 0 {
-        return;
+        return Ok(());
     }
     let a = read(token);
-    write_first(token[0], length, a);
+    write_first(&mut io::writer(rt), token[0], length, a)?;
     let Answer::Accepted(rows) = a else {
-        return;
+        return Ok(());
     };
     for row in 0..rows {
-        write_row_fields(token, row);
+        write_row_fields(rt, token, row)?;
     }
+    Ok(())
 }
 
 // Writes how many of these bytes are as they were.
-fn write_unused(rest: &[u8]) {
-    let mut n: usize = 0;
-    for i in 0..rest.len() {
-        if rest[i] == UNUSED {
-            n += 1;
-        }
-    }
-    io::print_decimal(STDOUT_FILENO, n as u64);
-    io::write_all(STDOUT_FILENO, b" bytes after it are as they were\n");
+fn write_unused(rt: &impl Print, rest: &[u8]) -> io::Result<()> {
+    let n = rest.iter().filter(|b| **b == UNUSED).count();
+    println!(rt; "{n} bytes after it are as they were")
 }
 
 // One less than n, and 0 for 0.
@@ -89,30 +82,29 @@ fn one_less(n: usize) -> usize
 }
 
 // The token in the first bytes of the draft, one too few.
-fn rebuild_short(token: &[u8], draft: &mut [u8])
+fn rebuild_short(rt: &impl Print, token: &[u8], draft: &mut [u8]) -> io::Result<()>
     requires { length token.now ≤ length draft.old }
 {
     let room = one_less(token.len());
     let a = rebuild(token, &mut draft[..room]);
-    write_first(0, 0, a);
+    write_first(&mut io::writer(rt), 0, 0, a)
 }
 
 // The token in the whole draft.
-fn rebuild_whole(token: &[u8], draft: &mut [u8]) {
+fn rebuild_whole(rt: &impl Print, token: &[u8], draft: &mut [u8]) -> io::Result<()> {
     let a = rebuild(token, draft);
     let Answer::Accepted(n) = a else {
-        write_first(0, 0, a);
-        return;
+        return write_first(&mut io::writer(rt), 0, 0, a);
     };
     let end = n as usize;
-    write_rebuilt(&draft[..end], n);
-    write_unused(&draft[end..]);
+    write_rebuilt(rt, &draft[..end], n)?;
+    write_unused(rt, &draft[end..])
 }
 
-fn main() {
+fn main(rt: HostRuntime) -> io::Result<()> {
     let mut token = [0u8; LONGEST + 1];
-    let n = io::read_full(STDIN_FILENO, &mut token);
+    let n = read_full(&mut rt.stdin(), &mut token);
     let mut draft = [UNUSED; DRAFT];
-    rebuild_short(&token[..n], &mut draft);
-    rebuild_whole(&token[..n], &mut draft);
+    rebuild_short(&rt, &token[..n], &mut draft)?;
+    rebuild_whole(&rt, &token[..n], &mut draft)
 }

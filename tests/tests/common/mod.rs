@@ -23,13 +23,13 @@ pub fn project() -> PathBuf {
     package.parent().expect("tests/ stands in it").to_path_buf()
 }
 
-/// A program, which `rt check` makes; the variable names another.
+/// A program, which `rt run` and `rt ci` make; the variable names another.
 fn built(name: &str, variable: &str) -> PathBuf {
-    let built = project().join("target/bin").join(name);
+    let built = project().join("crates").join(name).join("out").join(name);
     let program = std::env::var_os(variable).map_or(built, PathBuf::from);
     assert!(
         program.is_file(),
-        "{} is missing: run `rt check {name}` in the project's folder first",
+        "{} is missing: run `rt run <stdin` in crates/{name} first",
         program.display()
     );
     program

@@ -31,4 +31,5 @@ returns c =
     let e = stored_cut _ _ p.new.line p.result p.ensures.stored p.ensures.short in record {
       answer = c.place_line.ensures.answer ∙ ap (λ (l : List ℕ). line_answer l out) e;
       buffer = c.place_line.ensures.buffer ∙ ap (λ (l : List ℕ). line_in l out) e;
+      fits = omega (arith, p.ensures.stored.place, p.ensures.short);
     }
