@@ -11,7 +11,7 @@ use lib.Dec.{eqb, leb}
 use lib.ListN.{length, take, drop, length-drop, take-append-drop}
 use lib.Seq.{drop-drop, drop-append-le, length-take-le}
 use borrow.Author.Tests.{eqb-true, eqb-false, leb-true, leb-false, not-true}
-use Rattle.format.specs.Bytes.{All, number, bytes_at}
+use Rattle.format.specs.Bytes.{number, bytes_at}
 use Rattle.format.specs.Slots.{least}
 use Rattle.format.specs.Parts.{Kind, rule, information, token_parameters, is_subsection, same_kind, layout, Part, size, external}
 use Rattle.format.specs.Reading.{section_kind, subsection_kind, Fault, fault, Outcome, refused, found, need, and_then, id_of, stated, made_length}
@@ -22,11 +22,11 @@ use Rattle.format.specs.Reading.{header_checks, reading, row_count, as_answer, a
 use Rattle.format.specs.Claims.{InPart}
 use Rattle.format.specs.declared.Answer.TheVariants.{Refused}
 use Rattle.format.proofs.Finding.{and_split, or_else, every_kind, section_kind_sound}
-use Rattle.format.proofs.Tests.{Hold, hold_join}
+use Rattle.format.proofs.Tests.{Hold}
 use Rattle.format.proofs.Offsets.{Inner, fields_inner}
 use Rattle.format.proofs.Reaching.{part_size, sizes, sizes_last, States, states_last, mask_there, least_pos}
 use Rattle.format.proofs.Sound.{made_le}
-use Rattle.format.proofs.Accepted.{Allowed, allowed}
+use Rattle.format.proofs.Accepted.{allowed}
 
 -- ---- outcomes
 

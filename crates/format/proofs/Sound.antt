@@ -23,7 +23,7 @@ use Rattle.format.proofs.Numbers.{bytes_take, bytes_drop, same_sym}
 use Rattle.format.proofs.Finding.{and_split, same_kind_eq, section_kind_sound, subsection_kind_sound}
 use Rattle.format.proofs.Fitting.{Fits-fits}
 use Rattle.format.proofs.Unique.{size_any, size_pos}
-use Rattle.format.proofs.Tests.{refused_not, found_inj, needed, followed, Hold, tests_passed, hold_split, Kept, located_kept}
+use Rattle.format.proofs.Tests.{refused_not, found_inj, needed, followed, tests_passed, hold_split, Kept, located_kept}
 use Rattle.format.proofs.PartForm.{Framed, part_written}
 use Rattle.format.proofs.Grouping.{all_join, Subs, parts_then_section, span_sub, span_section, subs_then_parts, subs_long, parts_last}
 

@@ -11,7 +11,7 @@ use lib.Dec.{eqb}
 use lib.ListN.{length, take, drop, length-append, length-drop}
 use lib.Seq.{take_all, take-append-le, drop-append-le, length-take-le}
 use borrow.Author.Tests.{le-leb, eqb-true}
-use Rattle.format.specs.Bytes.{Bytes, number, bytes_at, all_zero}
+use Rattle.format.specs.Bytes.{Bytes, bytes_at, all_zero}
 use Rattle.format.specs.Parts.{Kind, rule, information, layout, same_kind, Part, external}
 use Rattle.format.specs.Rules.{longest, check, checks, Section}
 use Rattle.format.specs.Reading.{Fault, Outcome, refused, found, and_then, id_of, stated, section_kind, part_in, part_slots, Test, located, kind_before, rule_before, field_checks, holds_subs, section_checks, section_rest, section, header_checks, reading}

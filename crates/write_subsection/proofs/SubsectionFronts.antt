@@ -14,7 +14,6 @@ use Rattle.format.specs.Parts.{Kind, section_id, is_subsection, layout, Part, si
 use Rattle.format.specs.Rules.{longest, Section}
 use Rattle.format.specs.Reading.{found, id_of, stated, header_checks, reading, parts_of}
 use Rattle.format.specs.Legal.{Lawful}
-use Rattle.format.specs.Slots.{least}
 use Rattle.format.proofs.Tests.{Hold}
 use Rattle.format.proofs.Unique.{size_any}
 use Rattle.format.proofs.Grouping.{Subs, all_split, all_map, parts_then_section, span_section, subs_long, parts_last}

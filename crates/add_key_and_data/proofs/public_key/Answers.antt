@@ -23,7 +23,6 @@ use Rattle.write_section.proofs.Calls.{header_stands}
 use Rattle.write_section.proofs.Fields.{fixed_fits, count_fits, count_unfit, later_unfit}
 use Rattle.write_appended_part.proofs.Longer.{length_stored}
 use Rattle.write_judged_section.proofs.Answers.{Ready, placed, no_place, rule-broken, put-after}
-use borrow.Author.Rules.{rules}
 use Rattle.add_key_and_data.proofs.public_key.Goals as goal
 
 -- an exponent and a modulus that their counts can state

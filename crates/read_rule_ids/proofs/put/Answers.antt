@@ -1,6 +1,5 @@
 -- The places from the hash on are full and hold other numbers; the first empty one takes the number.
 use mathlib.Core.Path.{refl}
-use Prim.Native.Nat.{◌-◌}
 use native.Mathlib.Omega.{arith}
 use Rattle.read_rule_ids.proofs.Laws.{start, step, fresh_at, seen_at}
 use Rattle.read_rule_ids.proofs.put.Goals as goal

@@ -1,12 +1,11 @@
 -- The first refusal of the fields of a rule is that of their tests.
-use mathlib.Core.Logic.{⊎_elim}
 use mathlib.Core.Path.{◌≡◌, sym, ◌∙◌, ap}
 use mathlib.Core.Bool.{Bool}
 use mathlib.Core.List.{List}
 use Prim.Native.Nat.{ℕ, ◌+◌, ◌<◌}
 use native.Mathlib.Omega.{arith}
 use lib.ListN.{get_or, drop}
-use borrow.Author.Tests.{eq-eqb, ne_eqb, not-false}
+use borrow.Author.Tests.{eq-eqb, ne_eqb}
 use Rattle.format.specs.Forms.{key_length, rule_id_form, rule_id_reach}
 use Rattle.format.specs.Bytes.{number, bytes_at}
 use Rattle.format.specs.Parts.{rule}

@@ -1,6 +1,5 @@
 -- What is left to add makes the whole draft.
 use mathlib.Core.Path.{refl}
-use Prim.Native.Nat.{◌-◌}
 use native.Mathlib.Omega.{arith}
 use Rattle.rebuild.proofs.Laws.{row_there, one_added, accepted_not, all_added}
 use Rattle.rebuild.proofs.add_rows.Goals as goal

@@ -1,5 +1,4 @@
 -- The loop of `exchange`. Assumes nothing.
-use Prim.Native.Nat.{◌-◌}
 use native.Mathlib.Omega.{arith}
 use Rattle.write_bytes.proofs.Exchanging.{exchange_none, exchange_more, exchange_all}
 use Rattle.write_bytes.proofs.exchange.Goals as goal

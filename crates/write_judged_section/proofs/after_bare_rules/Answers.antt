@@ -1,6 +1,5 @@
 -- The loop over rules of 20 bytes.
 use mathlib.Core.Path.{◌≡◌, sym, ◌∙◌}
-use Prim.Native.Nat.{◌-◌}
 use native.Mathlib.Omega.{arith}
 use lib.ListN.{drop}
 use Rattle.format.specs.Reading.{id_of, stated}
@@ -8,9 +7,6 @@ use Rattle.write_last_part.proofs.Tiling.{stated_at}
 use Rattle.write_last_part.proofs.Tiling.{id_at_is}
 use Rattle.write_judged_section.specs.Placing.{here}
 use Rattle.write_judged_section.proofs.Passing.{passed_part}
-use Rattle.write_judged_section.proofs.after_bare_rules.Reads as reads
-use Rattle.write_judged_section.proofs.after_bare_rules.Lts as lts
-use Rattle.read_fields.proofs.two.Reads as two-reads
 use Rattle.write_judged_section.proofs.after_bare_rules.Goals as goal
 
 pub loop-q-init : goal.loop-q-init

@@ -3,9 +3,6 @@ use mathlib.Core.Path.{◌≡◌}
 use Prim.Native.Nat.{ℕ, ◌-◌, ◌≤◌}
 use lib.ListN.{length, drop}
 use Rattle.write_judged_section.specs.Placing.{PassedTo}
-use Rattle.write_judged_section.proofs.after_bare_rules.Reads as reads
-use Rattle.write_judged_section.proofs.after_bare_rules.Lts as lts
-use Rattle.read_fields.proofs.two.Reads as two-reads
 use Rattle.write_judged_section.proofs.after_bare_rules.Given as goal
 
 abbrev pub invariant-loop-q : goal.invariant-loop-q

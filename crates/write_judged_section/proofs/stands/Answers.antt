@@ -1,15 +1,10 @@
 -- The loop over the sections that are no rules of 20 bytes.
 use mathlib.Core.Path.{sym, ◌∙◌}
-use Prim.Native.Nat.{◌-◌}
 use native.Mathlib.Omega.{arith}
 use lib.ListN.{drop, length-drop}
 use Rattle.write_last_part.proofs.Tiling.{stated_at}
 use Rattle.write_last_part.proofs.Tiling.{id_at_is}
 use Rattle.write_judged_section.proofs.Passing.{passed_tiled, passed_through, passed_part, part_ends, passed_all}
-use Rattle.write_judged_section.proofs.stands.Reads as reads
-use Rattle.write_judged_section.proofs.stands.Lts as lts
-use Rattle.read_fields.proofs.two.Reads as two-reads
-use Rattle.write_judged_section.proofs.after_bare_rules.Reads as after-bare-rules-reads
 use Rattle.write_judged_section.proofs.stands.Goals as goal
 
 pub after_bare_rules-p-requires : goal.after_bare_rules-p-requires

@@ -2,10 +2,6 @@
 use Prim.Native.Nat.{◌-◌, ◌≤◌}
 use lib.ListN.{length, drop}
 use Rattle.write_judged_section.specs.Placing.{PassedTo}
-use Rattle.write_judged_section.proofs.stands.Reads as reads
-use Rattle.write_judged_section.proofs.stands.Lts as lts
-use Rattle.read_fields.proofs.two.Reads as two-reads
-use Rattle.write_judged_section.proofs.after_bare_rules.Reads as after-bare-rules-reads
 use Rattle.write_judged_section.proofs.stands.Given as goal
 
 abbrev pub invariant-loop-p : goal.invariant-loop-p

@@ -1,8 +1,7 @@
 -- The loop over the parts, each as long as it states.
 use mathlib.Core.Path.{◌≡◌}
-use Prim.Native.Nat.{◌-◌}
 use native.Mathlib.Omega.{arith}
-use lib.ListN.{length, drop}
+use lib.ListN.{drop}
 use Rattle.format.specs.Reading.{stated}
 use Rattle.read_sections.proofs.Laws.{number_at}
 use Rattle.write_last_part.proofs.Stepping.{twenty_first, stepped_none, stepped_more, stepped_twenties, stepped_broken, stepped_all}

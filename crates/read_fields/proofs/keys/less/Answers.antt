@@ -1,6 +1,5 @@
 -- The loop of `less`: the order of what is left is the order of the whole. Assumes nothing.
 use mathlib.Core.Path.{refl, sym, ◌∙◌}
-use Prim.Native.Nat.{◌-◌}
 use native.Mathlib.Omega.{arith}
 use Rattle.read_fields.proofs.Sizes.{bytes_of}
 use Rattle.read_fields.proofs.Order.{less_done, less_here, more_here, same_here}

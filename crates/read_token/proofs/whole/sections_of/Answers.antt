@@ -1,7 +1,6 @@
 -- The loop over the sections.
 use mathlib.Core.Path.{◌≡◌, refl, sym, ap, ap₂, ◌∙◌}
 use mathlib.Core.Bool.{not, Bool, false, ◌||◌}
-use Prim.Native.Nat.{◌-◌}
 use native.Mathlib.Omega.{arith}
 use lib.ListN.{get_or, drop, get_or-replicate}
 use Rattle.format.specs.Reading.{stated}
