@@ -32,7 +32,8 @@ SAID = {
 def lemma_files():
     yield from sorted(glob.glob("crates/*/specs/**/*.antt", recursive=True))
     for f in sorted(glob.glob("crates/*/proofs/**/*.antt", recursive=True)):
-        if not f.endswith(("/Proof.antt", "/Answers.antt", "/Invariants.antt")):
+        # crates/C/proofs/F/Answers.antt is of the function F, crates/C/proofs/Answers.antt is a file of lemmas
+        if f.count("/") == 3 or not f.endswith(("/Proof.antt", "/Answers.antt", "/Invariants.antt")):
             yield f
 
 
@@ -94,15 +95,18 @@ def main(argv):
         new = SAID.get(n) or (camel(n) if n in facts else snake(n))
         if new != n:
             table[n] = new
-    seen = set()
+    seen, functions = set(), set()
     for f in texts():
-        seen.update(re.findall(WORD, open(f, encoding="utf-8").read()))
+        text = open(f, encoding="utf-8").read()
+        seen.update(re.findall(WORD, text))
+        if f.endswith(".rt"):
+            functions.update(re.findall(r"\bfn (\w+)", text))
     for n, t in sorted(table.items()):
         if n in SAID or t not in seen and sum(u == t for u in table.values()) == 1:
             continue
         if "-" in n:
             table[n] = t + "_is"
-        elif t in names:
+        elif t in names and t not in functions:
             table[t] = t + "_is"
             print("ends in _is:", t, table[t])
         if table.get(t) != t + "_is" and table[n] == t:

@@ -85,20 +85,20 @@ module _ {k : Kind} {fs : Fields} {d w : List ℕ} {t : ℕ} (r : Ready k fs d w
       (record { cause = f.cause; is = adds ∙ then_refused _ f.is; number = f.number; place = f.place })
 
   -- a rule on its fields is broken
-  pub rule-broken : {f l : ℕ} → Accepted l ≡ as_answer (λ m. m) (place_for (section_id k) t d)
+  pub rule_broken : {f l : ℕ} → Accepted l ≡ as_answer (λ m. m) (place_for (section_id k) t d)
       → f ≡ first_refusal (located (part_slots k w) (checks (external (id_of d)) k fs)) → (f ≡ 0 → ⊥)
       → (Refused (f % 256) (l + f / 256) ≡ write_answer (addition k fs d)) × (d ≡ draft_after (addition k fs d) d)
-  rule-broken {f} {l} a e other =
+  rule_broken {f} {l} a e other =
       let q = stops l (located (part_slots k w) (checks (external (id_of d)) k fs)) (found (grown d 0 w))
       (every_kind (λ j. numbered (located (part_slots j w) (checks (external (id_of d)) j fs))) refl k) e other in
       refused_written (addition k fs d) d
       (record { cause = q.why; is = adds ∙ then_found _ (placed d (section_id k) t a).0 ∙ q.same; number = sym q.number; place = sym q.stands })
 
   -- it is written after the draft, whose header states the new length
-  pub put-after : {l e : ℕ} {new : List ℕ} → Accepted l ≡ as_answer (λ m. m) (place_for (section_id k) t d) → Kept (checks (external (id_of d)) k fs)
+  pub put_after : {l e : ℕ} {new : List ℕ} → Accepted l ≡ as_answer (λ m. m) (place_for (section_id k) t d) → Kept (checks (external (id_of d)) k fs)
       → e ≡ l + t → new ≡ restate 0 e (sets d l w)
       → (Accepted e ≡ write_answer (addition k fs d)) × (new ≡ draft_after (addition k fs d) d)
-  put-after {l} {e} {new} a h q n =
+  put_after {l} {e} {new} a h q n =
       let p = placed d (section_id k) t a in
       let s = header_stands d p.1.reads in
       let ends = p.1.ends in

@@ -15,7 +15,7 @@ use Rattle.write_section.proofs.Calls.{header_stands}
 use Rattle.write_section.proofs.Fields.{count_unfit, counted_fits}
 use Rattle.write_appended_part.proofs.Longer.{length_stored}
 use Rattle.write_section.proofs.StoredParts.{stored_last}
-use Rattle.write_judged_section.proofs.Answers.{Ready, placed, no_place, put-after}
+use Rattle.write_judged_section.proofs.Answers.{Ready, placed, no_place, put_after}
 use Rattle.add_key_and_data.proofs.application_data.Goals as goal
 
 -- data that its count can state
@@ -118,6 +118,6 @@ returns-in-Accepted c =
     let x = a.«data».now in
     let h = c.section_head-count_at.ensures.place in
     let q = c.put_two-data_at.ensures.place in
-    let e = c.put-end.ensures.place in let z = put-after (ready d x (omega arith) (bytes_of d (λ i. (c.slice_known-1.given i).fits))) (sym c.in-Accepted.is ∙ c.place_for-a.ensures) tt (omega arith)
+    let e = c.put-end.ensures.place in let z = put_after (ready d x (omega arith) (bytes_of d (λ i. (c.slice_known-1.given i).fits))) (sym c.in-Accepted.is ∙ c.place_for-a.ensures) tt (omega arith)
     (length_stored 0 c.put-end.result c.put_two-next.ensures
     ∙ ap (restate 0 c.put-end.result) (stored_then c.section_head-count_at.ensures (stored_then c.put_two-data_at.ensures (stored_last c.put-end.ensures))).bytes) in record { answer = z.0; draft = z.1 }

@@ -22,7 +22,7 @@ use Rattle.write_section.proofs.Additions.{unfit_added}
 use Rattle.write_section.proofs.Calls.{header_stands}
 use Rattle.write_section.proofs.Fields.{fixed_fits, count_fits, count_unfit, later_unfit}
 use Rattle.write_appended_part.proofs.Longer.{length_stored}
-use Rattle.write_judged_section.proofs.Answers.{Ready, placed, no_place, rule-broken, put-after}
+use Rattle.write_judged_section.proofs.Answers.{Ready, placed, no_place, rule_broken, put_after}
 use Rattle.add_key_and_data.proofs.public_key.Goals as goal
 
 -- an exponent and a modulus that their counts can state
@@ -97,7 +97,7 @@ returns-then-f-ne0 c =
     let h₁ = c.if-exponent-gt65535.false in
     let h₂ = c.if-modulus-gt65535.false in
     let r = ready d a.modulus_bits a.exponent.now a.modulus.now a.flags (omega arith) (omega arith) (bytes_of d (λ i. (c.slice_known-1.given i).fits)) in
-    let s = rule-broken r (sym c.in-Accepted.is ∙ c.place_for-a.ensures) (judged) c.if-f-ne0.true in record {
+    let s = rule_broken r (sym c.in-Accepted.is ∙ c.place_for-a.ensures) (judged) c.if-f-ne0.true in record {
       answer = c.refused.ensures ∙ s.0;
       draft = s.1;
     }
@@ -170,5 +170,5 @@ returns-else-f-ne0 c =
     let h₂ = c.if-modulus-gt65535.false in
     let r = ready d a.modulus_bits e m a.flags (omega arith) (omega arith) (bytes_of d (λ i. (c.slice_known-1.given i).fits)) in
     let k = c.put_key-end.ensures.place in
-    let long = key-length a.modulus_bits e m a.flags in let z = put-after r (sym c.in-Accepted.is ∙ c.place_for-a.ensures) (located_kept (part_slots public_key (write (16 + length e + length m) (layout public_key) (public_key_fields a.modulus_bits e m a.flags))) (checks false public_key (public_key_fields a.modulus_bits e m a.flags)) (all_hold (Rules a.modulus_bits e m a.flags) refl (sym c.if-f-ne0.false ∙ judged))) (omega arith)
+    let long = key-length a.modulus_bits e m a.flags in let z = put_after r (sym c.in-Accepted.is ∙ c.place_for-a.ensures) (located_kept (part_slots public_key (write (16 + length e + length m) (layout public_key) (public_key_fields a.modulus_bits e m a.flags))) (checks false public_key (public_key_fields a.modulus_bits e m a.flags)) (all_hold (Rules a.modulus_bits e m a.flags) refl (sym c.if-f-ne0.false ∙ judged))) (omega arith)
     (length_stored 0 c.put_key-end.result c.put_two-next.ensures ∙ ap (restate 0 c.put_key-end.result) c.put_key-end.ensures.bytes) in record { answer = z.0; draft = z.1 }
