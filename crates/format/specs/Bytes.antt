@@ -10,8 +10,8 @@
 -- data, record     `data` lists the forms of its values; a `record` has all its lines, and as a statement asks for all of
 --                  them, for data (in `Legal`) that there are such; `record { f = a; .. }` is a value, `r.f` its field.
 --                  `(a, b)` is a pair, of type A × B, `p.0` and `p.1` its parts
--- lists            [] empty; x ∷ xs; ++ joins; take n l, drop n l the first n, the rest; getD l k d element k, from 0, or d;
---                  getElem? l k `some` of it or `none`; replicate n x; map f l
+-- lists            [] empty; x ∷ xs; ++ joins; take n l, drop n l the first n, the rest; get_or l k d element k, from 0, or d;
+--                  get_elem? l k `some` of it or `none`; replicate n x; map f l
 -- numbers          suc n is n + 1; a difference stops at 0; / drops the remainder, which is %; ^ is power
 -- elim e [ p ↦ a | .. ]   a choice by cases, `as ..` only gives its type; `let x = e in` gives e a name
 use Rattle.std.specs.Prelude.{Bool, true, false, ◌&&◌, ◌||◌, List, [], ◌∷◌, ◌++◌, ℕ, zero, suc, ◌+◌, ◌*◌, ◌/◌, ◌%◌, ◌<◌, eqb, take, drop}
