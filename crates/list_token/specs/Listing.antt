@@ -1,5 +1,4 @@
--- The listing of a token: what the program writes.
--- Beside 01: T's listing and the paragraph after it.
+-- The listing of a token, as the program writes it: a first line, and for an accepted token a line for each row of its table, in order.
 use Rattle.std.specs.Prelude.{true, List, [], ◌∷◌, ◌++◌, ℕ, zero, suc, ◌+◌, ◌*◌, length, slice_index}
 use Rattle.format.specs.Reading.{refused, found, id_of, reading, parts_of, answer}
 use Rattle.format.specs.Table.{rows, columns}
