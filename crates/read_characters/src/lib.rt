@@ -97,7 +97,8 @@ fn only_spaces(s: &[u8], i: usize, e: usize) -> bool
     let mut only = true;
     let mut p = i;
     while p < e {
-        if s[p] != b' ' {
+        let other = s[p] != b' ';
+        if other {
             only = false;
         }
         p += 1;

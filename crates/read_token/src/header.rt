@@ -30,13 +30,15 @@ fn length_allowed(s: &[u8], full: bool) -> bool
     ensures { result ≡ length_allowed full s.now }
 {
     let n = two(s, 2);
-    if LONGEST < n {
+    let above = LONGEST < n;
+    if above {
         return false;
     }
     if full {
         return n == s.len();
     }
-    if n < 8 {
+    let below = n < 8;
+    if below {
         return false;
     }
     n <= s.len()

@@ -19,7 +19,8 @@ fn after_bare_rules(s: &[u8], p: usize) -> usize
 {
     let mut q = p;
     while q + RULE_FIELDS <= s.len() {
-        if s[q] != 0x12 {
+        let other = s[q] != 0x12;
+        if other {
             return q;
         }
         if two(s, q + 2) != RULE_FIELDS {

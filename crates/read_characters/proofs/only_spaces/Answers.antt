@@ -12,7 +12,7 @@ use Rattle.format.specs.Forms.{space}
 use Rattle.read_fields.proofs.Lists.{bytes_end}
 use Rattle.read_characters.proofs.Runs.{every_more, every_less}
 use Rattle.read_characters.proofs.only_spaces.Goals as goal
-use Rattle.read_characters.proofs.only_spaces.Goals.{then-s-p-ne32, else-s-p-ne32}
+use Rattle.read_characters.proofs.only_spaces.Goals.{then-other, else-other}
 
 pub loop-p-init : goal.loop-p-init
 loop-p-init c = (search rules, search rules, refl)
@@ -26,9 +26,9 @@ loop-p-preserved c =
     let b = get_or s l.p 0 in (
       search rules,
       search rules,
-      elim c.if-s-p-ne32.branch [
-        | then-s-p-ne32 w ↦ rw w.only-is (sym (every_less space s l.p a.e t (omega arith) l.only (ne_eqb b 0x20 w.if-s-p-ne32.true)) ∙ l.invariant.2)
-        | else-s-p-ne32 w ↦ rw w.only-is (sym (every_more space s l.p a.e t (omega arith) l.only (eq-eqb b 0x20 w.if-s-p-ne32.false)) ∙ l.invariant.2)
+      elim c.if-other.branch [
+        | then-other w ↦ rw w.only-is (sym (every_less space s l.p a.e t (omega arith) l.only (ne_eqb b 0x20 w.if-other.true)) ∙ l.invariant.2)
+        | else-other w ↦ rw w.only-is (sym (every_more space s l.p a.e t (omega arith) l.only (eq-eqb b 0x20 w.if-other.false)) ∙ l.invariant.2)
       ],
     )
 

@@ -21,8 +21,8 @@ pub bounds-s-q : goal.bounds-s-q
 bounds-s-q c =
     let h = c.loop-q-test.true in omega arith
 
-pub returns-then-s-q-ne18 : goal.returns-then-s-q-ne18
-returns-then-s-q-ne18 c =
+pub returns-then-other : goal.returns-then-other
+returns-then-other c =
     c.loop-q.invariant
 
 pub overflow_add-q-in-loop-q : goal.overflow_add-q-in-loop-q
@@ -53,7 +53,7 @@ loop-q-preserved c =
     let h = c.loop-q-test.true in
     let a = v.0 in
     let n : c.two.result ≡ stated (drop q s) = c.two.ensures.0 ∙ stated_at s q in
-    let id : id_of (drop q s) ≡ 0x12 = id_at_is s q (omega arith) ∙ c.if-s-q-ne18.false in
+    let id : id_of (drop q s) ≡ 0x12 = id_at_is s q (omega arith) ∙ c.if-other.false in
     (omega arith, omega arith, λ i k. passed_part s q (v.2 i k) (λ e. k (sym id ∙ e)) (sym c.if-two-ne-RULE_FIELDS.false ∙ n) (omega arith) (omega arith))
 
 pub returns : goal.returns
