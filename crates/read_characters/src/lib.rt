@@ -122,7 +122,8 @@ fn after_star(s: &[u8], page: &[u8; 256], first: u8, p: usize, e: usize) -> usiz
     requires { (p ≤ e) × (e ≤ length s.now) × Page page.now }
     ensures { (result ≡ p + star_after (eqb first star_class) (bytes_at s.now p (e - p))) × (result ≤ e) }
 {
-    if first == STAR {
+    let starred = first == STAR;
+    if starred {
         return p;
     }
     if p == e {

@@ -50,7 +50,8 @@ fn protection_at(s: &[u8], q: usize, n: usize, external: bool, seen: bool) -> u3
     if h != 0 {
         return h;
     }
-    if !external {
+    let internal = !external;
+    if internal {
         return 0;
     }
     if !all_zero(s, q + 46, 16) {
@@ -72,7 +73,8 @@ fn dates_at(s: &[u8], q: usize, n: usize, seen: bool) -> u32
     if 1 < flags {
         return DATES_FLAGS;
     }
-    if flags != 1 {
+    let unjudged = flags != 1;
+    if unjudged {
         return 0;
     }
     if !date_exists(s, q + 8) {
@@ -137,7 +139,8 @@ fn information_subs(s: &[u8], p: usize, e: usize, external: bool, full: bool) ->
     if !full {
         return Answer::Accepted(n);
     }
-    if !protected {
+    let missing = !protected;
+    if missing {
         return Answer::Refused(20, p as u32);
     }
     Answer::Accepted(n)

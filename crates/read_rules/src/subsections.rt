@@ -60,7 +60,8 @@ pub fn has_required(s: &[u8], p: usize, full: bool, exported: bool) -> bool
     requires { p + 20 ≤ length s.now }
     ensures { (us : List Part) → has export_parameters us ≡ exported → result ≡ (not full || has_required (rule_of (drop p s.now) us)) }
 {
-    if !full {
+    let draft = !full;
+    if draft {
         return true;
     }
     if exported {

@@ -74,7 +74,8 @@ pub fn subsection_head(s: &[u8], q: usize, n: usize, least: usize, seen: bool) -
     if len < least {
         return SUBSECTION_LENGTH;
     }
-    if n < len {
+    let past_section = n < len;
+    if past_section {
         return SUBSECTION_LENGTH;
     }
     if seen {

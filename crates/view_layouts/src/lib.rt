@@ -76,7 +76,8 @@ pub fn slot_at(s: &[u8], at: usize, kind: u32, field: usize) -> Where
     while rest != 0 {
         let digit = rest % 16;
         let n = width(digit, first, second);
-        if left == 0 {
+        let there = left == 0;
+        if there {
             return Where::At(o as u32, n as u32);
         }
         first = count(s, o, digit, 0xa, first);

@@ -100,7 +100,8 @@ pub fn field_in(s: &[u8], row: usize, field: usize) -> Where
     let mut p = start();
     let mut left = row;
     while p.at < s.len() {
-        if left == 0 {
+        let there = left == 0;
+        if there {
             let found = row_at(s, p);
             return slot_at(s, p.at, found.kind, field);
         }

@@ -46,7 +46,8 @@ pub fn last_part(s: &[u8], first: usize) -> Last
             return Last::Broken;
         }
         let n = two(s, p + 2);
-        if n < 4 {
+        let short = n < 4;
+        if short {
             return Last::Broken;
         }
         if s.len() - p < n {

@@ -51,7 +51,8 @@ fn append_section(draft: &mut [u8], part: &mut [u8]) -> Answer
     let a = append(draft, 0, part);
     match a {
         Answer::Refused(number, at) => {
-            if number == 23 {
+            let no_room = number == 23;
+            if no_room {
                 return own_fault_or(draft, number, at);
             }
             if (at as usize) < n {

@@ -61,7 +61,8 @@ fn append_subsection(draft: &mut [u8], place: usize, first: usize, part: &mut [u
             if number == 23 {
                 return own_fault_or(draft, number, at);
             }
-            if (at as usize) < first {
+            let earlier = (at as usize) < first;
+            if earlier {
                 return own_fault_or(draft, number, at);
             }
             let own = last_alone(&draft[..n], place);
@@ -82,7 +83,8 @@ fn add_to_section(draft: &mut [u8], id: u8, place: usize, part: &mut [u8]) -> An
     ensures draft { draft.new ≡ draft_after (subsection_added id draft.old part.old) draft.old }
 {
     let n = two(draft, 2);
-    if draft[place] != id {
+    let other = draft[place] != id;
+    if other {
         return own_fault_or(draft, 25, n as u32);
     }
     let first = place + fixed_fields(id);

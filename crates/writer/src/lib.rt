@@ -16,7 +16,8 @@ pub fn start(draft: &mut [u8], id: u8) -> Answer
     ensures answer { result ≡ write_answer (started id draft.old) }
     ensures draft { draft.new ≡ draft_after (started id draft.old) draft.old }
 {
-    if draft.len() < 8 {
+    let short = draft.len() < 8;
+    if short {
         return Answer::Refused(23, 0);
     }
     match id {

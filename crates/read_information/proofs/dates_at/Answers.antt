@@ -40,11 +40,11 @@ returns-then-flags-gt1 c x =
     let past_1 : Past 5 c.args.seen c.args.n c.args.q c.args.s.now = λ x. (fixed_head 16 _ _ _ _ c.fixed_subsection_head-h.ensures).left c.if-h-ne0.false in
     failed (past_1 x) (above _ _ 6 2 c.two-flags.ensures.0 1 c.if-flags-gt1.true)
 
-pub returns-then-flags-ne1 : goal.returns-then-flags-ne1
-returns-then-flags-ne1 c x =
+pub returns-then-unjudged : goal.returns-then-unjudged
+returns-then-unjudged c x =
     let past_1 : Past 5 c.args.seen c.args.n c.args.q c.args.s.now = λ x. (fixed_head 16 _ _ _ _ c.fixed_subsection_head-h.ensures).left c.if-h-ne0.false in
     let past_2 : Past 6 c.args.seen c.args.n c.args.q c.args.s.now = λ x. passed (past_1 x) (at_most _ _ 6 2 c.two-flags.ensures.0 1 c.if-flags-gt1.false) in
-    let kept : dates_judged (At c.args.q c.args.s.now 6 2) ≡ false = other_number _ _ 6 2 c.two-flags.ensures.0 1 c.if-flags-ne1.true in
+    let kept : dates_judged (At c.args.q c.args.s.now 6 2) ≡ false = other_number _ _ 6 2 c.two-flags.ensures.0 1 c.if-unjudged.true in
     none_left (passed (passed (passed (past_2 x) (not_asked _ (kept))) (not_asked _ (kept))) (not_asked _ (kept)))
 
 pub date_exists-requires : goal.date_exists-requires
@@ -58,7 +58,7 @@ pub returns-then-not-date_exists : goal.returns-then-not-date_exists
 returns-then-not-date_exists c x =
     let past_1 : Past 5 c.args.seen c.args.n c.args.q c.args.s.now = λ x. (fixed_head 16 _ _ _ _ c.fixed_subsection_head-h.ensures).left c.if-h-ne0.false in
     let past_2 : Past 6 c.args.seen c.args.n c.args.q c.args.s.now = λ x. passed (past_1 x) (at_most _ _ 6 2 c.two-flags.ensures.0 1 c.if-flags-gt1.false) in
-    let judged : dates_judged (At c.args.q c.args.s.now 6 2) ≡ true = is_number _ _ 6 2 c.two-flags.ensures.0 1 c.if-flags-ne1.false in
+    let judged : dates_judged (At c.args.q c.args.s.now 6 2) ≡ true = is_number _ _ 6 2 c.two-flags.ensures.0 1 c.if-unjudged.false in
     failed (past_2 x) (asked (judged) (sym (field_at_is date_exists _ _ 8 4 c.date_exists.ensures) ∙ c.if-not-date_exists.true))
 
 pub date_exists-requires-2 : goal.date_exists-requires-2
@@ -72,7 +72,7 @@ pub returns-then-not-date_exists-2 : goal.returns-then-not-date_exists-2
 returns-then-not-date_exists-2 c x =
     let past_1 : Past 5 c.args.seen c.args.n c.args.q c.args.s.now = λ x. (fixed_head 16 _ _ _ _ c.fixed_subsection_head-h.ensures).left c.if-h-ne0.false in
     let past_2 : Past 6 c.args.seen c.args.n c.args.q c.args.s.now = λ x. passed (past_1 x) (at_most _ _ 6 2 c.two-flags.ensures.0 1 c.if-flags-gt1.false) in
-    let judged : dates_judged (At c.args.q c.args.s.now 6 2) ≡ true = is_number _ _ 6 2 c.two-flags.ensures.0 1 c.if-flags-ne1.false in
+    let judged : dates_judged (At c.args.q c.args.s.now 6 2) ≡ true = is_number _ _ 6 2 c.two-flags.ensures.0 1 c.if-unjudged.false in
     let past_4 : Past 7 c.args.seen c.args.n c.args.q c.args.s.now = λ x. passed (past_2 x) (asked (judged) (sym (field_at_is date_exists _ _ 8 4 c.date_exists.ensures) ∙ c.if-not-date_exists.false)) in
     failed (past_4 x) (asked (judged) (sym (field_at_is date_exists _ _ 12 4 c.date_exists-2.ensures) ∙ c.if-not-date_exists-2.true))
 
@@ -87,7 +87,7 @@ pub returns-then-not-in_order : goal.returns-then-not-in_order
 returns-then-not-in_order c x =
     let past_1 : Past 5 c.args.seen c.args.n c.args.q c.args.s.now = λ x. (fixed_head 16 _ _ _ _ c.fixed_subsection_head-h.ensures).left c.if-h-ne0.false in
     let past_2 : Past 6 c.args.seen c.args.n c.args.q c.args.s.now = λ x. passed (past_1 x) (at_most _ _ 6 2 c.two-flags.ensures.0 1 c.if-flags-gt1.false) in
-    let judged : dates_judged (At c.args.q c.args.s.now 6 2) ≡ true = is_number _ _ 6 2 c.two-flags.ensures.0 1 c.if-flags-ne1.false in
+    let judged : dates_judged (At c.args.q c.args.s.now 6 2) ≡ true = is_number _ _ 6 2 c.two-flags.ensures.0 1 c.if-unjudged.false in
     let past_4 : Past 7 c.args.seen c.args.n c.args.q c.args.s.now = λ x. passed (past_2 x) (asked (judged) (sym (field_at_is date_exists _ _ 8 4 c.date_exists.ensures) ∙ c.if-not-date_exists.false)) in
     let past_5 : Past 8 c.args.seen c.args.n c.args.q c.args.s.now = λ x. passed (past_4 x) (asked (judged) (sym (field_at_is date_exists _ _ 12 4 c.date_exists-2.ensures) ∙ c.if-not-date_exists-2.false)) in
     let ordered : c.in_order.result ≡ in_order (At c.args.q c.args.s.now 8 4) (At c.args.q c.args.s.now 12 4) = c.in_order.ensures ∙ sym (ap₂ in_order (at_drop _ _ 8 4) (at_drop _ _ 12 4)) in
@@ -97,7 +97,7 @@ pub returns : goal.returns
 returns c x =
     let past_1 : Past 5 c.args.seen c.args.n c.args.q c.args.s.now = λ x. (fixed_head 16 _ _ _ _ c.fixed_subsection_head-h.ensures).left c.if-h-ne0.false in
     let past_2 : Past 6 c.args.seen c.args.n c.args.q c.args.s.now = λ x. passed (past_1 x) (at_most _ _ 6 2 c.two-flags.ensures.0 1 c.if-flags-gt1.false) in
-    let judged : dates_judged (At c.args.q c.args.s.now 6 2) ≡ true = is_number _ _ 6 2 c.two-flags.ensures.0 1 c.if-flags-ne1.false in
+    let judged : dates_judged (At c.args.q c.args.s.now 6 2) ≡ true = is_number _ _ 6 2 c.two-flags.ensures.0 1 c.if-unjudged.false in
     let past_4 : Past 7 c.args.seen c.args.n c.args.q c.args.s.now = λ x. passed (past_2 x) (asked (judged) (sym (field_at_is date_exists _ _ 8 4 c.date_exists.ensures) ∙ c.if-not-date_exists.false)) in
     let past_5 : Past 8 c.args.seen c.args.n c.args.q c.args.s.now = λ x. passed (past_4 x) (asked (judged) (sym (field_at_is date_exists _ _ 12 4 c.date_exists-2.ensures) ∙ c.if-not-date_exists-2.false)) in
     let ordered : c.in_order.result ≡ in_order (At c.args.q c.args.s.now 8 4) (At c.args.q c.args.s.now 12 4) = c.in_order.ensures ∙ sym (ap₂ in_order (at_drop _ _ 8 4) (at_drop _ _ 12 4)) in

@@ -101,12 +101,12 @@ returns-then-not-full c =
     let b = c in
     ends_there b.args.full c.loop-q.invariant c.loop-q-test.false b.requires.0 b.requires.3 (not_asked c.loop-q.protected (c.if-not-full.true))
 
-pub returns-then-not-protected : goal.returns-then-not-protected
-returns-then-not-protected c =
+pub returns-then-missing : goal.returns-then-missing
+returns-then-missing c =
     let b = c in
-    ends_missing b.args.full c.loop-q.invariant c.loop-q-test.false b.requires.0 b.requires.3 (asked (c.if-not-full.false) (c.if-not-protected.true))
+    ends_missing b.args.full c.loop-q.invariant c.loop-q-test.false b.requires.0 b.requires.3 (asked (c.if-not-full.false) (c.if-missing.true))
 
 pub returns : goal.returns
 returns c =
     let b = c in
-    ends_there b.args.full c.loop-q.invariant c.loop-q-test.false b.requires.0 b.requires.3 (asked (c.if-not-full.false) (c.if-not-protected.false))
+    ends_there b.args.full c.loop-q.invariant c.loop-q-test.false b.requires.0 b.requires.3 (asked (c.if-not-full.false) (c.if-missing.false))

@@ -22,10 +22,10 @@ zeros q s = all_zero (bytes_at (drop q s) 46 16)
 pub returns-then-h-ne0 : goal.returns-then-h-ne0
 returns-then-h-ne0 c = (fixed_head 62 _ _ _ _ c.fixed_subsection_head-h.ensures).stop c.if-h-ne0.true
 
-pub returns-then-not-external : goal.returns-then-not-external
-returns-then-not-external c =
+pub returns-then-internal : goal.returns-then-internal
+returns-then-internal c =
     let past_1 : Past 5 c.args.external c.args.seen c.args.n c.args.q c.args.s.now = (fixed_head 62 _ _ _ _ c.fixed_subsection_head-h.ensures).left c.if-h-ne0.false in
-    let internal : c.args.external ≡ false = c.if-not-external.true in
+    let internal : c.args.external ≡ false = c.if-internal.true in
     none_left (passed (past_1) (not_asked (zeros c.args.q c.args.s.now) (internal)))
 
 pub all_zero-requires : goal.all_zero-requires
@@ -38,13 +38,13 @@ all_zero-requires c =
 pub returns-then-not-all_zero : goal.returns-then-not-all_zero
 returns-then-not-all_zero c =
     let past_1 : Past 5 c.args.external c.args.seen c.args.n c.args.q c.args.s.now = (fixed_head 62 _ _ _ _ c.fixed_subsection_head-h.ensures).left c.if-h-ne0.false in
-    let external : c.args.external ≡ true = c.if-not-external.false in
+    let external : c.args.external ≡ true = c.if-internal.false in
     let judged : c.all_zero.result ≡ zeros c.args.q c.args.s.now = field_at_is all_zero _ _ 46 16 c.all_zero.ensures in
     failed (past_1) (asked (external) (sym (judged) ∙ c.if-not-all_zero.true))
 
 pub returns : goal.returns
 returns c =
     let past_1 : Past 5 c.args.external c.args.seen c.args.n c.args.q c.args.s.now = (fixed_head 62 _ _ _ _ c.fixed_subsection_head-h.ensures).left c.if-h-ne0.false in
-    let external : c.args.external ≡ true = c.if-not-external.false in
+    let external : c.args.external ≡ true = c.if-internal.false in
     let judged : c.all_zero.result ≡ zeros c.args.q c.args.s.now = field_at_is all_zero _ _ 46 16 c.all_zero.ensures in
     none_left (passed (past_1) (asked (external) (sym (judged) ∙ c.if-not-all_zero.false)))

@@ -17,15 +17,15 @@ overflow_cast-result c =
     let w = here c.loop-rest.invariant c.loop-rest-test.true in
     omega (arith, w.room, w.lying.standing.short)
 
-pub overflow_cast-result-then-left-eq0 : goal.overflow_cast-result-then-left-eq0
-overflow_cast-result-then-left-eq0 c =
+pub overflow_cast-result-then-there : goal.overflow_cast-result-then-there
+overflow_cast-result-then-there c =
     let w = here c.loop-rest.invariant c.loop-rest-test.true in
     omega (arith, w.room, w.lying.standing.short, w.width, c.width-n.ensures)
 
-pub returns-then-left-eq0 : goal.returns-then-left-eq0
-returns-then-left-eq0 c =
+pub returns-then-there : goal.returns-then-there
+returns-then-there c =
     let w = here c.loop-rest.invariant c.loop-rest-test.true in
-    lies_here w c.if-left-eq0.true c.width-n.ensures
+    lies_here w c.if-there.true c.width-n.ensures
 
 pub count-first-requires : goal.count-first-requires
 count-first-requires c =
@@ -48,7 +48,7 @@ loop-rest-smaller c = omega (arith, c.loop-rest-test.true)
 pub loop-rest-preserved : goal.loop-rest-preserved
 loop-rest-preserved c =
     let w = here c.loop-rest.invariant c.loop-rest-test.true in
-    goes_on w c.if-left-eq0.false c.width-n.ensures c.count-first.ensures c.count-second.ensures
+    goes_on w c.if-there.false c.width-n.ensures c.count-first.ensures c.count-second.ensures
 
 pub returns : goal.returns
 returns c = lies_nowhere c.loop-rest.invariant c.loop-rest-test.false

@@ -16,10 +16,10 @@ row_at-found-requires c = seek_begins c.loop-p.invariant c.loop-p-test.true
 pub slot_at-requires : goal.slot_at-requires
 slot_at-requires c = seek_stands c.loop-p.invariant c.loop-p-test.true c.row_at-found.ensures
 
-pub returns-then-left-eq0 : goal.returns-then-left-eq0
-returns-then-left-eq0 c =
+pub returns-then-there : goal.returns-then-there
+returns-then-there c =
     let w = c.loop-p.invariant in
-    seek_found w c.loop-p-test.true c.if-left-eq0.true c.row_at-found.ensures c.slot_at.ensures
+    seek_found w c.loop-p-test.true c.if-there.true c.row_at-found.ensures c.slot_at.ensures
 
 pub behind-p-requires : goal.behind-p-requires
 behind-p-requires c = seek_begins c.loop-p.invariant c.loop-p-test.true
@@ -30,7 +30,7 @@ loop-p-smaller c =
     omega (arith, further b c.behind-p.ensures, c.loop-p-test.true)
 
 pub loop-p-preserved : goal.loop-p-preserved
-loop-p-preserved c = seek_on c.loop-p.invariant c.loop-p-test.true c.if-left-eq0.false c.behind-p.ensures
+loop-p-preserved c = seek_on c.loop-p.invariant c.loop-p-test.true c.if-there.false c.behind-p.ensures
 
 pub returns : goal.returns
 returns c = seek_none c.args.field c.loop-p.invariant c.loop-p-test.false

@@ -29,12 +29,12 @@ two-n-requires c =
     omega arith
 
 -- The length that was read is the part's.
-pub returns-then-n-lt4 : goal.returns-then-n-lt4
-returns-then-n-lt4 c =
+pub returns-then-short : goal.returns-then-short
+returns-then-short c =
     let w = c in
     let n : c.two-n.result ≡ stated (drop w.loop-p.p w.args.s.now) =
     number_at w.args.s.now w.loop-p.p 2 2 c.two-n.ensures.0 in
-    stepped_broken w.loop-p.invariant c.loop-p-test.true (λ a b. let h = c.if-n-lt4.true in omega arith)
+    stepped_broken w.loop-p.invariant c.loop-p-test.true (λ a b. let h = c.if-short.true in omega arith)
 
 pub overflow_sub-s-in-loop-p : goal.overflow_sub-s-in-loop-p
 overflow_sub-s-in-loop-p c = let i = c.loop-p.invariant.inside in omega arith
@@ -83,7 +83,7 @@ loop-p-smaller c =
     let w = c in
     let i = w.loop-p.invariant.inside in
     let h = c.if-s-p.false in
-    let a = c.if-n-lt4.false in
+    let a = c.if-short.false in
     let l = c.loop-p-test.true in
     omega arith
 
@@ -91,7 +91,7 @@ pub loop-p-preserved : goal.loop-p-preserved
 loop-p-preserved c =
     let w = c in
     let h = c.if-s-p.false in
-    let a = c.if-n-lt4.false in
+    let a = c.if-short.false in
     stepped_more w.loop-p.invariant c.loop-p-test.true
     (number_at w.args.s.now w.loop-p.p 2 2 c.two-n.ensures.0) (omega arith) (omega arith)
 

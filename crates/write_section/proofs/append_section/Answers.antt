@@ -20,8 +20,8 @@ append-a-requires c =
     let s = c in
     header_standing s.args.draft.now s.requires.0
 
-pub returns-then-number-eq23 : goal.returns-then-number-eq23
-returns-then-number-eq23 c =
+pub returns-then-no_room : goal.returns-then-no_room
+returns-then-no_room c =
     let s = c in
     let p = c in
     let a = s.args in
@@ -43,7 +43,7 @@ returns-else-at-n c =
     let d = s.args.draft.now in
     let w = s.args.part.now in
     let a = sym c.in-Refused.is ∙ p.append-a.ensures.answer in
-    let f = appended_refused d 0 w a c.if-number-eq23.false in
+    let f = appended_refused d 0 w a c.if-no_room.false in
     let n = c.two-n.ensures.0 in
     let h = c.if-at-n.false in
     let at = f.1.1.1 in

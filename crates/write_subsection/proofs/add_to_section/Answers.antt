@@ -33,14 +33,14 @@ bounds-draft-place c =
     let i = last_inside s.args.draft.now s.args.place s.requires.1 s.requires.2 in
     omega (arith, i)
 
-pub returns-then-draft-place : goal.returns-then-draft-place
-returns-then-draft-place c =
+pub returns-then-other : goal.returns-then-other
+returns-then-other c =
     let s = c in
     let a = s.args in
     let d = a.draft.now in
     let b = bytes_of d (λ i. (c.slice_known-1.given i).fits) in
     let n : c.two-n.result ≡ stated d = c.two-n.ensures.0 in
-    let e = other_last d a.part.now a.place a.id b s.requires.2 (last_inside d a.place s.requires.1 s.requires.2) c.if-draft-place.true in let z = same_written d e (subst (λ (k : ℕ). c.own_fault_or.result ≡ write_answer (refused_after d 25 k)) n c.own_fault_or.ensures)
+    let e = other_last d a.part.now a.place a.id b s.requires.2 (last_inside d a.place s.requires.1 s.requires.2) c.if-other.true in let z = same_written d e (subst (λ (k : ℕ). c.own_fault_or.result ≡ write_answer (refused_after d 25 k)) n c.own_fault_or.ensures)
     (sym (refused_kept d 25 (stated d))) in record { answer = z.0; draft = z.1 }
 
 pub overflow_add-first : goal.overflow_add-first
@@ -60,7 +60,7 @@ returns-then-n-first c =
     let a = s.args in
     let d = a.draft.now in
     let b = bytes_of d (λ i. (c.slice_known-1.given i).fits) in
-    let id = id_at_is d a.place (last_inside d a.place s.requires.1 s.requires.2) ∙ c.if-draft-place.false in
+    let id = id_at_is d a.place (last_inside d a.place s.requires.1 s.requires.2) ∙ c.if-other.false in
     let n = c.two-n.ensures.0 in
     let f = c.fixed_fields.ensures in
     let h = c.if-n-first.true in let z = unread d _ (λ r. let w = (last_subs d r.0 a.place a.id b r.1 s.requires.2 id s.requires.0).0 in omega (arith, w, n, f, h)) c.read_draft.ensures in record { answer = z.0; draft = z.1 }
@@ -97,7 +97,7 @@ returns-in-Broken c =
     let a = s.args in
     let d = a.draft.now in
     let b = bytes_of d (λ i. (t.slice_known-1.given i).fits) in
-    let id = id_at_is d a.place (last_inside d a.place s.requires.1 s.requires.2) ∙ p.if-draft-place.false in
+    let id = id_at_is d a.place (last_inside d a.place s.requires.1 s.requires.2) ∙ p.if-other.false in
     let n : t.two-n.result ≡ stated d = t.two-n.ensures.0 in
     let f = p.fixed_fields.ensures in
     let w = subst (λ (k : ℕ). LastOf (take (stated d) d) (a.place + k) p.last_part-last.result) f
@@ -118,7 +118,7 @@ append_subsection-requires c =
       header = s.requires.1;
       last = s.requires.2;
       id = a.id;
-      there = id_at_is d a.place (last_inside d a.place s.requires.1 s.requires.2) ∙ c.if-draft-place.false;
+      there = id_at_is d a.place (last_inside d a.place s.requires.1 s.requires.2) ∙ c.if-other.false;
       ends = ap (λ (k : ℕ). a.place + k) f;
       fixed = omega (arith, n, h);
     }
@@ -139,4 +139,4 @@ returns c =
     (subst (λ (k : ℕ). LastOf (take k d) (a.place + p.fixed_fields.result) p.last_part-last.result) n p.last_part-last.ensures) in
     let tiled = walk_ended _ _ p.last_part-last.result u (opened c.in_default.in_default-own.keys2) in
     let e = sub_tried d w a.place a.id b (bytes_of w (λ i. (t.slice_known-2-1.given i).fits)) s.requires.1 s.requires.2
-    (last_inside d a.place s.requires.1 s.requires.2) p.if-draft-place.false s.requires.0 (omega (arith, n, f, h)) tiled in let z = same_written d e c.append_subsection.ensures.answer c.append_subsection.ensures.draft in record { answer = z.0; draft = z.1 }
+    (last_inside d a.place s.requires.1 s.requires.2) p.if-other.false s.requires.0 (omega (arith, n, f, h)) tiled in let z = same_written d e c.append_subsection.ensures.answer c.append_subsection.ensures.draft in record { answer = z.0; draft = z.1 }

@@ -29,12 +29,12 @@ returns-then-number-eq23 c =
     let a = s.args in let z = own_refused a.draft.now (appended a.draft.now a.place a.part.now)
     (sym c.in-Refused.is ∙ p.append-a.ensures.answer) p.append-a.ensures.draft c.own_fault_or.ensures in record { answer = z.0; draft = z.1 }
 
-pub returns-then-at-first : goal.returns-then-at-first
-returns-then-at-first c =
+pub returns-then-earlier : goal.returns-then-earlier
+returns-then-earlier c =
     let s = c in
     let p = c in
     let a = s.args in let z = own_refused a.draft.now (appended a.draft.now a.place a.part.now)
-    (sym c.in-Refused.is ∙ p.append-a.ensures.answer) p.append-a.ensures.draft c.own_fault_or-then-at-first.ensures in record { answer = z.0; draft = z.1 }
+    (sym c.in-Refused.is ∙ p.append-a.ensures.answer) p.append-a.ensures.draft c.own_fault_or-then-earlier.ensures in record { answer = z.0; draft = z.1 }
 
 pub slice_bounds-last_alone-end : goal.slice_bounds-last_alone-end
 slice_bounds-last_alone-end c =
@@ -72,7 +72,7 @@ returns-in-Refused-own c =
     let b = bytes_of d (λ i. (c.slice_known-1.given i).fits) in
     let v = bytes_of w (λ i. (c.slice_known-2-1.given i).fits) in
     let a = sym c.in-Refused.is ∙ p.append-a.ensures.answer in
-    let l = left d w s.args.place s.args.first b v s.requires a c.if-number-eq23.false (omega (arith, c.if-at-first.false)) c.two-n.ensures.0 p.append-a.ensures.draft in let z = left_refused d s.args.place w _ l.0 l.1 a p.append-a.ensures.draft (sym c.in-Refused-own.is ∙ c.last_alone-own.ensures) in record { answer = z.0; draft = z.1 }
+    let l = left d w s.args.place s.args.first b v s.requires a c.if-number-eq23.false (omega (arith, c.if-earlier.false)) c.two-n.ensures.0 p.append-a.ensures.draft in let z = left_refused d s.args.place w _ l.0 l.1 a p.append-a.ensures.draft (sym c.in-Refused-own.is ∙ c.last_alone-own.ensures) in record { answer = z.0; draft = z.1 }
 
 pub returns-in-Accepted-own : goal.returns-in-Accepted-own
 returns-in-Accepted-own c =
@@ -83,7 +83,7 @@ returns-in-Accepted-own c =
     let b = bytes_of d (λ i. (c.slice_known-1.given i).fits) in
     let v = bytes_of w (λ i. (c.slice_known-2-1.given i).fits) in
     let a = sym c.in-Refused.is ∙ p.append-a.ensures.answer in
-    let l = left d w s.args.place s.args.first b v s.requires a c.if-number-eq23.false (omega (arith, c.if-at-first.false)) c.two-n.ensures.0 p.append-a.ensures.draft in let z = own_late d s.args.place w (left_found d _ l.0 l.1 (sym c.in-Accepted-own.is ∙ c.last_alone-own.ensures)) a p.append-a.ensures.draft in record { answer = z.0; draft = z.1 }
+    let l = left d w s.args.place s.args.first b v s.requires a c.if-number-eq23.false (omega (arith, c.if-earlier.false)) c.two-n.ensures.0 p.append-a.ensures.draft in let z = own_late d s.args.place w (left_found d _ l.0 l.1 (sym c.in-Accepted-own.is ∙ c.last_alone-own.ensures)) a p.append-a.ensures.draft in record { answer = z.0; draft = z.1 }
 
 pub returns-in-Accepted : goal.returns-in-Accepted
 returns-in-Accepted c =

@@ -5,8 +5,8 @@ use Rattle.read_token.proofs.Headers.{id_known, id_below, id_above}
 use Rattle.writer.proofs.StartBytes.{too_short, id_unknown, header_stored}
 use Rattle.writer.proofs.start.Goals as goal
 
-pub returns-then-draft-lt8 : goal.returns-then-draft-lt8
-returns-then-draft-lt8 c =
+pub returns-then-short : goal.returns-then-short
+returns-then-short c =
     let a = c.args in let z = too_short a.id a.draft.now (omega arith) in record { answer = z.0; draft = z.1 }
 
 pub returns-in-30 : goal.returns-in-30
