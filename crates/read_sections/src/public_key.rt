@@ -29,7 +29,8 @@ pub fn key_fields(bits: usize, exponent: &[u8], modulus: &[u8], flags: u32) -> u
     if exponent.len() < 1 {
         return EXPONENT_LENGTH;
     }
-    if 512 < exponent.len() {
+    let too_long = 512 < exponent.len();
+    if too_long {
         return EXPONENT_LENGTH;
     }
     if bits < 512 {

@@ -43,28 +43,28 @@ flags-offset n r e m x y = omega arith
 pub returns-then-exponent-lt1 : goal.returns-then-exponent-lt1
 returns-then-exponent-lt1 c r b f x y q g = failed (all_left (Tests c.args.exponent.now c.args.modulus.now r b f)) (between_low 1 512 c.if-exponent-lt1.true)
 
-pub returns-then-exponent-gt512 : goal.returns-then-exponent-gt512
-returns-then-exponent-gt512 c r b f x y q g = failed (all_left (Tests c.args.exponent.now c.args.modulus.now r b f)) (between_high 1 512 c.if-exponent-lt1.false c.if-exponent-gt512.true)
+pub returns-then-too_long : goal.returns-then-too_long
+returns-then-too_long c r b f x y q g = failed (all_left (Tests c.args.exponent.now c.args.modulus.now r b f)) (between_high 1 512 c.if-exponent-lt1.false c.if-too_long.true)
 
 pub returns-then-bits-lt512 : goal.returns-then-bits-lt512
 returns-then-bits-lt512 c r b f x y q g =
-    let past_2 : Past 1 c.args.bits c.args.exponent.now c.args.modulus.now = λ r b f q. passed (all_left _) (between_yes 1 512 c.if-exponent-lt1.false (omega (arith, c.if-exponent-gt512.false))) in
+    let past_2 : Past 1 c.args.bits c.args.exponent.now c.args.modulus.now = λ r b f q. passed (all_left _) (between_yes 1 512 c.if-exponent-lt1.false (omega (arith, c.if-too_long.false))) in
     failed (past_2 r b f q) (ap modulus_bits_allowed (sym q) ∙ between_low 512 4096 c.if-bits-lt512.true)
 
 pub returns-then-bits-gt4096 : goal.returns-then-bits-gt4096
 returns-then-bits-gt4096 c r b f x y q g =
-    let past_2 : Past 1 c.args.bits c.args.exponent.now c.args.modulus.now = λ r b f q. passed (all_left _) (between_yes 1 512 c.if-exponent-lt1.false (omega (arith, c.if-exponent-gt512.false))) in
+    let past_2 : Past 1 c.args.bits c.args.exponent.now c.args.modulus.now = λ r b f q. passed (all_left _) (between_yes 1 512 c.if-exponent-lt1.false (omega (arith, c.if-too_long.false))) in
     failed (past_2 r b f q) (ap modulus_bits_allowed (sym q) ∙ between_high 512 4096 c.if-bits-lt512.false c.if-bits-gt4096.true)
 
 pub returns-then-modulus-bits : goal.returns-then-modulus-bits
 returns-then-modulus-bits c r b f x y q g =
-    let past_2 : Past 1 c.args.bits c.args.exponent.now c.args.modulus.now = λ r b f q. passed (all_left _) (between_yes 1 512 c.if-exponent-lt1.false (omega (arith, c.if-exponent-gt512.false))) in
+    let past_2 : Past 1 c.args.bits c.args.exponent.now c.args.modulus.now = λ r b f q. passed (all_left _) (between_yes 1 512 c.if-exponent-lt1.false (omega (arith, c.if-too_long.false))) in
     let past_4 : Past 2 c.args.bits c.args.exponent.now c.args.modulus.now = λ r b f q. passed (past_2 r b f q) (ap modulus_bits_allowed (sym q) ∙ between_yes 512 4096 c.if-bits-lt512.false c.if-bits-gt4096.false) in
     failed (past_4 r b f q) (ap (fewest c.args.modulus.now) (sym q) ∙ ne_eqb _ _ c.if-modulus-bits.true)
 
 pub returns-then-not-modulus_form : goal.returns-then-not-modulus_form
 returns-then-not-modulus_form c r b f x y q g =
-    let past_2 : Past 1 c.args.bits c.args.exponent.now c.args.modulus.now = λ r b f q. passed (all_left _) (between_yes 1 512 c.if-exponent-lt1.false (omega (arith, c.if-exponent-gt512.false))) in
+    let past_2 : Past 1 c.args.bits c.args.exponent.now c.args.modulus.now = λ r b f q. passed (all_left _) (between_yes 1 512 c.if-exponent-lt1.false (omega (arith, c.if-too_long.false))) in
     let past_4 : Past 2 c.args.bits c.args.exponent.now c.args.modulus.now = λ r b f q. passed (past_2 r b f q) (ap modulus_bits_allowed (sym q) ∙ between_yes 512 4096 c.if-bits-lt512.false c.if-bits-gt4096.false) in
     let past_5 : Past 3 c.args.bits c.args.exponent.now c.args.modulus.now = λ r b f q. passed (past_4 r b f q) (ap (fewest c.args.modulus.now) (sym q) ∙ eq-eqb _ _ c.if-modulus-bits.false) in
     c.at_offset.ensures
@@ -82,7 +82,7 @@ exponent_form-requires c =
 
 pub returns-then-not-exponent_form : goal.returns-then-not-exponent_form
 returns-then-not-exponent_form c r b f x y q g =
-    let past_2 : Past 1 c.args.bits c.args.exponent.now c.args.modulus.now = λ r b f q. passed (all_left _) (between_yes 1 512 c.if-exponent-lt1.false (omega (arith, c.if-exponent-gt512.false))) in
+    let past_2 : Past 1 c.args.bits c.args.exponent.now c.args.modulus.now = λ r b f q. passed (all_left _) (between_yes 1 512 c.if-exponent-lt1.false (omega (arith, c.if-too_long.false))) in
     let past_4 : Past 2 c.args.bits c.args.exponent.now c.args.modulus.now = λ r b f q. passed (past_2 r b f q) (ap modulus_bits_allowed (sym q) ∙ between_yes 512 4096 c.if-bits-lt512.false c.if-bits-gt4096.false) in
     let past_5 : Past 3 c.args.bits c.args.exponent.now c.args.modulus.now = λ r b f q. passed (past_4 r b f q) (ap (fewest c.args.modulus.now) (sym q) ∙ eq-eqb _ _ c.if-modulus-bits.false) in
     let past_6 : Past 4 c.args.bits c.args.exponent.now c.args.modulus.now = λ r b f q.
@@ -91,7 +91,7 @@ returns-then-not-exponent_form c r b f x y q g =
 
 pub returns-in-0 : goal.returns-in-0
 returns-in-0 c r b f x y q g =
-    let past_2 : Past 1 c.args.bits c.args.exponent.now c.args.modulus.now = λ r b f q. passed (all_left _) (between_yes 1 512 c.if-exponent-lt1.false (omega (arith, c.if-exponent-gt512.false))) in
+    let past_2 : Past 1 c.args.bits c.args.exponent.now c.args.modulus.now = λ r b f q. passed (all_left _) (between_yes 1 512 c.if-exponent-lt1.false (omega (arith, c.if-too_long.false))) in
     let past_4 : Past 2 c.args.bits c.args.exponent.now c.args.modulus.now = λ r b f q. passed (past_2 r b f q) (ap modulus_bits_allowed (sym q) ∙ between_yes 512 4096 c.if-bits-lt512.false c.if-bits-gt4096.false) in
     let past_5 : Past 3 c.args.bits c.args.exponent.now c.args.modulus.now = λ r b f q. passed (past_4 r b f q) (ap (fewest c.args.modulus.now) (sym q) ∙ eq-eqb _ _ c.if-modulus-bits.false) in
     let past_6 : Past 4 c.args.bits c.args.exponent.now c.args.modulus.now = λ r b f q.
@@ -101,7 +101,7 @@ returns-in-0 c r b f x y q g =
 
 pub returns-in_default : goal.returns-in_default
 returns-in_default c r b f x y q g =
-    let past_2 : Past 1 c.args.bits c.args.exponent.now c.args.modulus.now = λ r b f q. passed (all_left _) (between_yes 1 512 c.if-exponent-lt1.false (omega (arith, c.if-exponent-gt512.false))) in
+    let past_2 : Past 1 c.args.bits c.args.exponent.now c.args.modulus.now = λ r b f q. passed (all_left _) (between_yes 1 512 c.if-exponent-lt1.false (omega (arith, c.if-too_long.false))) in
     let past_4 : Past 2 c.args.bits c.args.exponent.now c.args.modulus.now = λ r b f q. passed (past_2 r b f q) (ap modulus_bits_allowed (sym q) ∙ between_yes 512 4096 c.if-bits-lt512.false c.if-bits-gt4096.false) in
     let past_5 : Past 3 c.args.bits c.args.exponent.now c.args.modulus.now = λ r b f q. passed (past_4 r b f q) (ap (fewest c.args.modulus.now) (sym q) ∙ eq-eqb _ _ c.if-modulus-bits.false) in
     let past_6 : Past 4 c.args.bits c.args.exponent.now c.args.modulus.now = λ r b f q.
