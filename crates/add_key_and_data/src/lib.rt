@@ -80,7 +80,8 @@ pub fn application_data(draft: &mut [u8], data: &[u8]) -> Answer
     ensures answer { result ≡ write_answer (addition Parts.application_data («data».now ∷ []) draft.old) }
     ensures draft { draft.new ≡ draft_after (addition Parts.application_data («data».now ∷ []) draft.old) draft.old }
 {
-    if 65535 < data.len() {
+    let too_long = 65535 < data.len();
+    if too_long {
         return not_fitting(draft);
     }
     let n = 6 + data.len();

@@ -21,7 +21,8 @@ pub fn transport_variant(draft: &mut [u8], variant: &[u8]) -> Answer
     ensures answer { result ≡ write_answer (addition transport_variant (variant.now ∷ []) draft.old) }
     ensures draft { draft.new ≡ draft_after (addition transport_variant (variant.now ∷ []) draft.old) draft.old }
 {
-    if 255 < variant.len() {
+    let too_long = 255 < variant.len();
+    if too_long {
         return not_fitting(draft);
     }
     let mut part = [0u8; 263];

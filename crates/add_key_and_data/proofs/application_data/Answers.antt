@@ -31,8 +31,8 @@ ready d x h b =
       long = omega arith;
     }
 
-pub returns-then-data-gt65535 : goal.returns-then-data-gt65535
-returns-then-data-gt65535 c =
+pub returns-then-too_long : goal.returns-then-too_long
+returns-then-too_long c =
     let a = c.args in let z = unfit_added application_data (a.«data».now ∷ []) a.draft.now (count_unfit (length a.«data».now) 65535 _ (omega arith))
     c.not_fitting.ensures in record { answer = z.0; draft = z.1 }
 

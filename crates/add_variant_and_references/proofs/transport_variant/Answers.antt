@@ -13,10 +13,10 @@ use Rattle.write_section.proofs.Fields.{count_unfit, counted_fits}
 use Rattle.write_section.proofs.StoredParts.{one_stored, stored_last, subsection_stored}
 use Rattle.add_variant_and_references.proofs.transport_variant.Goals as goal
 
-pub returns-then-variant-gt255 : goal.returns-then-variant-gt255
-returns-then-variant-gt255 c =
+pub returns-then-too_long : goal.returns-then-too_long
+returns-then-too_long c =
     let a = c.args in
-    let x = a.variant.now in let z = unfit_added transport_variant (x ∷ []) a.draft.now (count_unfit (length x) 255 _ c.if-variant-gt255.true) c.not_fitting.ensures in record { answer = z.0; draft = z.1 }
+    let x = a.variant.now in let z = unfit_added transport_variant (x ∷ []) a.draft.now (count_unfit (length x) 255 _ c.if-too_long.true) c.not_fitting.ensures in record { answer = z.0; draft = z.1 }
 
 pub slice_bounds-add_subsection-end : goal.slice_bounds-add_subsection-end
 slice_bounds-add_subsection-end c =
