@@ -23,13 +23,8 @@ SORTS = {"read": (laws.of_reading, READING), "draft": (laws.of_reading, READING)
          "ruleid": (laws.of_form, {"Forms": ""}), "label": (laws.of_form, {"Forms": ""}), "given": (laws.of_given, {"GivenNumbers": ""}),
          "example": (laws.of_example, {"Examples": "starred Example read read_any date", "DateExamples": "dates_read"}), "parts": (laws.of_parts, PARTS)}
 HEAD = """use Rattle.std.specs.Prelude.{◌≡◌, refl, Bool, true, false, List, [], ◌∷◌, ◌++◌, ℕ, replicate, set, take, get_or, length}
-use Rattle.format.specs.declared.Answer.{Answer}
-use Rattle.format.specs.declared.Answer.TheVariants.{Accepted, Refused}
 use Rattle.format.specs.declared.Row.{Row}
-use Rattle.format.specs.declared.Where.{Where}
-use Rattle.format.specs.declared.Where.TheVariants.{At, Missing}
-use Rattle.format.specs.declared.Step.{Step}
-use Rattle.format.specs.declared.Step.TheVariants.{Record, End, Stopped}
+use Rattle.format.specs.Answers.{Answer, Accepted, Refused, Where, At, Missing, Step, Record, End, Stopped}
 """
 # The crate's code: none.
 SOURCE = "#![tactic(auto)]\n\npub fn nothing() {}\n"

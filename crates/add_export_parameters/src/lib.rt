@@ -6,8 +6,8 @@ ghost use Rattle.std.specs.Prelude.{◌≡◌};
 ghost use Rattle.format.specs.Parts.{export_parameters};
 ghost use Rattle.format.specs.Writer.{write_answer, draft_after, addition, export_fields};
 
-use format::Answer;
-use write_bytes::{put, put_one, put_two};
+use format::Refusal;
+use write_bytes::Buffer;
 use write_section::heads::subsection_head;
 use write_section::not_fitting;
 use write_subsection::add_subsection;
@@ -19,22 +19,22 @@ pub fn export_parameters(
     maximum: u8,
     variant: &[u8],
     vector: &[u8],
-) -> Answer
+) -> Result<u32, Refusal>
     ensures answer { result ≡ write_answer (addition export_parameters (export_fields minimum maximum variant.now vector.now) draft.old) }
     ensures draft { draft.new ≡ draft_after (addition export_parameters (export_fields minimum maximum variant.now vector.now) draft.old) draft.old }
 {
-    if 255 < variant.len() || 255 < vector.len() {
+    let Ok(variant_count) = u8::try_from(variant.len()) else {
         return not_fitting(draft);
-    }
-    let mut part = [0u8; 522];
-    let a = subsection_head(&mut part, 0x0003, 12 + variant.len() + vector.len());
-    let b = put_two(&mut part, a, 0);
-    let c = put_one(&mut part, b, 0);
-    let d = put_one(&mut part, c, minimum);
-    let e = put_one(&mut part, d, maximum);
-    let f = put_one(&mut part, e, variant.len() as u8);
-    let g = put(&mut part, f, variant);
-    let h = put_one(&mut part, g, vector.len() as u8);
-    let i = put(&mut part, h, vector);
-    add_subsection(draft, 0x12, &mut part[..i])
+    };
+    let Ok(vector_count) = u8::try_from(vector.len()) else {
+        return not_fitting(draft);
+    };
+    let n = 12 + u16::from(variant_count) + u16::from(vector_count);
+    let mut part = Buffer::<522>::new();
+    part.put(&subsection_head(0x0003, n));
+    part.put(&[0, 0, 0, minimum, maximum, variant_count]);
+    part.put(variant);
+    part.put(&[vector_count]);
+    part.put(vector);
+    add_subsection(draft, 0x12, part.as_mut_slice())
 }

@@ -9,37 +9,45 @@ ghost use Rattle.format.specs.Layout.{write};
 ghost use Rattle.format.specs.Parts as Parts;
 ghost use Rattle.format.specs.Rules.{longest};
 ghost use Rattle.format.specs.Writer.{write_answer, draft_after, addition, public_key_fields};
-ghost use Rattle.write_bytes.specs.Storing.{Stored};
 
-use format::Answer;
+use format::Refusal;
 use read_sections::public_key::key_fields;
-use read_sections::refused;
-use write_bytes::{put, put_four, put_two};
+use write_bytes::Buffer;
 use write_judged_section::place_for;
 use write_section::heads::section_head;
 use write_section::not_fitting;
 
-// The bytes of section 11, n in all, from the place `at` on.
-fn put_key(
-    draft: &mut [u8],
-    at: usize,
-    n: usize,
-    modulus_bits: u16,
-    exponent: &[u8],
-    modulus: &[u8],
-    flags: u32,
-) -> usize
-    requires { (n ≡ 16 + length exponent.now + length modulus.now) × (at + n ≤ length draft.old) × (at + n ≤ longest) }
-    ensures { Stored draft.old at (write n (Parts.layout Parts.public_key) (public_key_fields modulus_bits exponent.now modulus.now flags)) draft.new result }
+// The bytes of section 11, in the place that is lent for them.
+fn put_key(part: &mut [u8], modulus_bits: u16, exponent: &[u8], modulus: &[u8], flags: u32)
+    requires { (length part.old ≡ 16 + length exponent.now + length modulus.now) × (length part.old ≤ longest) }
+    ensures { part.new ≡ write (length part.old) (Parts.layout Parts.public_key) (public_key_fields modulus_bits exponent.now modulus.now flags) }
 {
-    let zeros_at = section_head(draft, at, 0x11, n);
-    let exponent_count_at = put_two(draft, zeros_at, 0);
-    let bits_at = put_two(draft, exponent_count_at, exponent.len());
-    let modulus_count_at = put_two(draft, bits_at, modulus_bits as usize);
-    let exponent_at = put_two(draft, modulus_count_at, modulus.len());
-    let modulus_at = put(draft, exponent_at, exponent);
-    let flags_at = put(draft, modulus_at, modulus);
-    put_four(draft, flags_at, flags)
+    let mut head = Buffer::<12>::new();
+    head.put(&section_head(0x11, part.len() as u16));
+    head.put(&[0; 2]);
+    head.put(&(exponent.len() as u16).to_be_bytes());
+    head.put(&modulus_bits.to_be_bytes());
+    head.put(&(modulus.len() as u16).to_be_bytes());
+    let (head_place, rest) = part.split_at_mut(12);
+    head_place.copy_from_slice(head.as_slice());
+    let (exponent_place, rest) = rest.split_at_mut(exponent.len());
+    exponent_place.copy_from_slice(exponent);
+    let (modulus_place, flags_place) = rest.split_at_mut(modulus.len());
+    modulus_place.copy_from_slice(modulus);
+    flags_place.copy_from_slice(&flags.to_be_bytes());
+}
+
+// The bytes of section 15, in the place that is lent for them.
+fn put_data(part: &mut [u8], data: &[u8])
+    requires { (length part.old ≡ 6 + length «data».now) × (length part.old ≤ longest) }
+    ensures { part.new ≡ write (length part.old) (Parts.layout Parts.application_data) («data».now ∷ []) }
+{
+    let mut head = Buffer::<6>::new();
+    head.put(&section_head(0x15, part.len() as u16));
+    head.put(&(data.len() as u16).to_be_bytes());
+    let (head_place, data_place) = part.split_at_mut(6);
+    head_place.copy_from_slice(head.as_slice());
+    data_place.copy_from_slice(data);
 }
 
 // Section 11, the public key: the bits of its modulus, its exponent and modulus, and its flags.
@@ -49,7 +57,7 @@ pub fn public_key(
     exponent: &[u8],
     modulus: &[u8],
     flags: u32,
-) -> Answer
+) -> Result<u32, Refusal>
     ensures answer { result ≡ write_answer (addition Parts.public_key (public_key_fields modulus_bits exponent.now modulus.now flags) draft.old) }
     ensures draft { draft.new ≡ draft_after (addition Parts.public_key (public_key_fields modulus_bits exponent.now modulus.now flags) draft.old) draft.old }
 {
@@ -60,23 +68,16 @@ pub fn public_key(
         return not_fitting(draft);
     }
     let n = 16 + exponent.len() + modulus.len();
-    let a = place_for(draft, 0x11, n);
-    match a {
-        Answer::Refused(number, place) => Answer::Refused(number, place),
-        Answer::Accepted(l) => {
-            let f = key_fields(modulus_bits as usize, exponent, modulus, flags);
-            if f != 0 {
-                return refused(f, l as usize);
-            }
-            let end = put_key(draft, l as usize, n, modulus_bits, exponent, modulus, flags);
-            let _next = put_two(draft, 2, end);
-            Answer::Accepted(end as u32)
-        }
-    }
+    let l = place_for(draft, 0x11, n)? as usize;
+    key_fields(l as u16, modulus_bits as usize, exponent, modulus, flags)?;
+    let end = l + n;
+    put_key(&mut draft[l..end], modulus_bits, exponent, modulus, flags);
+    draft[2..4].copy_from_slice(&(end as u16).to_be_bytes());
+    Ok(end as u32)
 }
 
 // Section 15, the application data: any bytes.
-pub fn application_data(draft: &mut [u8], data: &[u8]) -> Answer
+pub fn application_data(draft: &mut [u8], data: &[u8]) -> Result<u32, Refusal>
     ensures answer { result ≡ write_answer (addition Parts.application_data («data».now ∷ []) draft.old) }
     ensures draft { draft.new ≡ draft_after (addition Parts.application_data («data».now ∷ []) draft.old) draft.old }
 {
@@ -85,15 +86,9 @@ pub fn application_data(draft: &mut [u8], data: &[u8]) -> Answer
         return not_fitting(draft);
     }
     let n = 6 + data.len();
-    let a = place_for(draft, 0x15, n);
-    match a {
-        Answer::Refused(number, place) => Answer::Refused(number, place),
-        Answer::Accepted(l) => {
-            let count_at = section_head(draft, l as usize, 0x15, n);
-            let data_at = put_two(draft, count_at, data.len());
-            let end = put(draft, data_at, data);
-            let _next = put_two(draft, 2, end);
-            Answer::Accepted(end as u32)
-        }
-    }
+    let l = place_for(draft, 0x15, n)? as usize;
+    let end = l + n;
+    put_data(&mut draft[l..end], data);
+    draft[2..4].copy_from_slice(&(end as u16).to_be_bytes());
+    Ok(end as u32)
 }

@@ -6,8 +6,8 @@ ghost use Rattle.std.specs.Prelude.{◌≡◌, [], ◌∷◌};
 ghost use Rattle.format.specs.Parts.{token_parameters};
 ghost use Rattle.format.specs.Writer.{write_answer, draft_after, addition};
 
-use format::Answer;
-use write_bytes::{put, put_one, put_two};
+use format::Refusal;
+use write_bytes::Buffer;
 use write_section::heads::subsection_head;
 use write_section::not_fitting;
 use write_subsection::add_subsection;
@@ -18,25 +18,26 @@ pub fn token_parameters(
     mask: &[u8],
     template: &[u8],
     label_template: &[u8],
-) -> Answer
+) -> Result<u32, Refusal>
     ensures answer { result ≡ write_answer (addition token_parameters (mask.now ∷ template.now ∷ label_template.now ∷ []) draft.old) }
     ensures draft { draft.new ≡ draft_after (addition token_parameters (mask.now ∷ template.now ∷ label_template.now ∷ []) draft.old) draft.old }
 {
-    if 255 < mask.len() || template.len() != mask.len() || 255 < label_template.len() {
+    let Ok(mask_count) = u8::try_from(mask.len()) else {
+        return not_fitting(draft);
+    };
+    if template.len() != mask.len() {
         return not_fitting(draft);
     }
-    let mut part = [0u8; 775];
-    let a = subsection_head(
-        &mut part,
-        0x0005,
-        10 + mask.len() + template.len() + label_template.len(),
-    );
-    let b = put_two(&mut part, a, 0);
-    let c = put_one(&mut part, b, 0);
-    let d = put_one(&mut part, c, mask.len() as u8);
-    let e = put(&mut part, d, mask);
-    let f = put(&mut part, e, template);
-    let g = put_one(&mut part, f, label_template.len() as u8);
-    let h = put(&mut part, g, label_template);
-    add_subsection(draft, 0x12, &mut part[..h])
+    let Ok(label_count) = u8::try_from(label_template.len()) else {
+        return not_fitting(draft);
+    };
+    let n = 10 + 2 * u16::from(mask_count) + u16::from(label_count);
+    let mut part = Buffer::<775>::new();
+    part.put(&subsection_head(0x0005, n));
+    part.put(&[0, 0, 0, mask_count]);
+    part.put(mask);
+    part.put(template);
+    part.put(&[label_count]);
+    part.put(label_template);
+    add_subsection(draft, 0x12, part.as_mut_slice())
 }

@@ -10,46 +10,44 @@ ghost use Rattle.format.specs.Parts.{Kind, transport_variant, transport_rule, so
 ghost use Rattle.format.specs.Writer.{write_answer, draft_after, addition};
 ghost use Rattle.add_variant_and_references.specs.References.{NamesRule};
 
-use format::Answer;
-use write_bytes::{put, put_one, put_two};
+use format::Refusal;
+use write_bytes::Buffer;
 use write_section::heads::subsection_head;
 use write_section::not_fitting;
 use write_subsection::add_subsection;
 
 // Adds 12/0001, the transport variant.
-pub fn transport_variant(draft: &mut [u8], variant: &[u8]) -> Answer
+pub fn transport_variant(draft: &mut [u8], variant: &[u8]) -> Result<u32, Refusal>
     ensures answer { result ≡ write_answer (addition transport_variant (variant.now ∷ []) draft.old) }
     ensures draft { draft.new ≡ draft_after (addition transport_variant (variant.now ∷ []) draft.old) draft.old }
 {
-    let too_long = 255 < variant.len();
-    if too_long {
+    let Ok(count) = u8::try_from(variant.len()) else {
         return not_fitting(draft);
-    }
-    let mut part = [0u8; 263];
-    let a = subsection_head(&mut part, 0x0001, 8 + variant.len());
-    let b = put_two(&mut part, a, 0);
-    let c = put_one(&mut part, b, variant.len() as u8);
-    let d = put(&mut part, c, variant);
-    add_subsection(draft, 0x12, &mut part[..d])
+    };
+    let mut part = Buffer::<263>::new();
+    part.put(&subsection_head(0x0001, 8 + u16::from(count)));
+    part.put(&[0, 0, count]);
+    part.put(variant);
+    add_subsection(draft, 0x12, part.as_mut_slice())
 }
 
 // Adds the subsection of section 12 with this tag, which holds a Rule ID.
-fn referenced_rule(draft: &mut [u8], tag: u8, rule_id: &[u8]) -> Answer
+fn referenced_rule(draft: &mut [u8], tag: u16, rule_id: &[u8]) -> Result<u32, Refusal>
     ensures answer { (k : Kind) → NamesRule k tag → result ≡ write_answer (addition k (rule_id.now ∷ []) draft.old) }
     ensures draft { (k : Kind) → NamesRule k tag → draft.new ≡ draft_after (addition k (rule_id.now ∷ []) draft.old) draft.old }
 {
     if rule_id.len() != 8 {
         return not_fitting(draft);
     }
-    let mut part = [0u8; 14];
-    let a = subsection_head(&mut part, tag, 14);
-    let b = put_one(&mut part, a, 0);
-    let c = put(&mut part, b, rule_id);
-    add_subsection(draft, 0x12, &mut part[..c])
+    let mut reference = Buffer::<14>::new();
+    reference.put(&subsection_head(tag, 14));
+    reference.put(&[0]);
+    reference.put(rule_id);
+    add_subsection(draft, 0x12, reference.as_mut_slice())
 }
 
 // Adds 12/0002, the transport rule: its Rule ID.
-pub fn transport_rule(draft: &mut [u8], rule_id: &[u8]) -> Answer
+pub fn transport_rule(draft: &mut [u8], rule_id: &[u8]) -> Result<u32, Refusal>
     ensures answer { result ≡ write_answer (addition transport_rule (rule_id.now ∷ []) draft.old) }
     ensures draft { draft.new ≡ draft_after (addition transport_rule (rule_id.now ∷ []) draft.old) draft.old }
 {
@@ -57,7 +55,7 @@ pub fn transport_rule(draft: &mut [u8], rule_id: &[u8]) -> Answer
 }
 
 // Adds 12/0004, the source rule: its Rule ID.
-pub fn source_rule(draft: &mut [u8], rule_id: &[u8]) -> Answer
+pub fn source_rule(draft: &mut [u8], rule_id: &[u8]) -> Result<u32, Refusal>
     ensures answer { result ≡ write_answer (addition source_rule (rule_id.now ∷ []) draft.old) }
     ensures draft { draft.new ≡ draft_after (addition source_rule (rule_id.now ∷ []) draft.old) draft.old }
 {

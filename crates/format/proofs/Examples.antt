@@ -8,7 +8,7 @@ use Rattle.format.specs.Parts.{Part, information, protection}
 use Rattle.format.specs.Legal.{Legal}
 use Rattle.format.specs.Table.{rows, table_reading, table_after}
 use Rattle.format.specs.Lines.{text, first_line, row_line}
-use Rattle.format.specs.declared.Answer.TheVariants.{Refused}
+use Rattle.format.specs.Answers.{Refused}
 use Rattle.format.specs.declared.Row.{Row}
 use Rattle.format.specs.Bytes.{All, number, bytes_at, all_zero, same_bytes}
 use Rattle.format.specs.Forms.{rule_id_form, rule_id_reach, label_form, label_reach, date_exists, modulus_form, exponent_form}

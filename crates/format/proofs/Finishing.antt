@@ -21,7 +21,8 @@ use Rattle.format.specs.Reading.{kind_before, rule_before, section_checks, after
 use Rattle.format.specs.GivenNumbers.{number_of, second_of}
 use Rattle.format.specs.Writer.{finish}
 use Rattle.format.specs.Claims.{answer_numbers, lacking_at}
-use Rattle.format.specs.declared.Answer.TheVariants.{Accepted, Refused}
+use Rattle.format.specs.Answers.{Accepted, Refused}
+use Rattle.format.proofs.Answers.{same_number, same_place}
 use Rattle.format.proofs.Finding.{and_split, and_join}
 use Rattle.format.proofs.Numbers.{bytes_take, bytes_drop}
 use Rattle.format.proofs.Tests.{Hold, refused_not, found_inj, needed, need_passed, need_failed, followed, then_found, then_refused, tests_passed, tests_lead}
@@ -244,14 +245,14 @@ finish_refuses d n p b = ((λ e. go (reading false d) refl e), λ w. back w)
     go : (o : Outcome (List Section)) → reading false d ≡ o → finish d ≡ Refused n p → Own d n p ⊎ Lacks d n p
     go (refused f) r e =
         let t = finish_own d f r in
-        let m : n ≡ f.number = cc in
-        let k : p ≡ f.place = cc in
+        let m : n ≡ f.number = same_number (sym e ∙ t) in
+        let k : p ≡ f.place = same_place (sym e ∙ t) in
         inl (f, r, m, k)
     go (found ss) r e =
         let c = within ss r e in
         let t = finish_lacks d ss b r c in
-        let m : n ≡ 20 = cc in
-        let k : p ≡ lacking_at (stated d) 8 ss = cc in
+        let m : n ≡ 20 = same_number (sym e ∙ t) in
+        let k : p ≡ lacking_at (stated d) 8 ss = same_place (sym e ∙ t) in
         inr (ss, r, c, m, k)
 
     back : Own d n p ⊎ Lacks d n p → finish d ≡ Refused n p
@@ -279,12 +280,12 @@ unfolding finish as_answer and_then
 finish_positive d n p e = draft (reading false d) refl e
   where
     token : (o : Outcome (List Section)) → reading true (take (stated d) d) ≡ o → as_answer (λ us. stated d) o ≡ Refused n p → 1 ≤ n
-    token (refused f) q w = let m : f.number ≡ n = cc in let r = fault_number true (take (stated d) d) f q in omega (arith, r)
+    token (refused f) q w = let m = same_number w in let r = fault_number true (take (stated d) d) f q in omega (arith, r)
     token (found us) q w = absurd (let z : ◌≡◌ {A = ℕ} 0 1 = cc in omega arith)
 
     draft : (o : Outcome (List Section)) → reading false d ≡ o
         → as_answer (λ us. stated d) (and_then o (λ ss. reading true (take (stated d) d))) ≡ Refused n p → 1 ≤ n
-    draft (refused f) q w = let m : f.number ≡ n = cc in let r = fault_number false d f q in omega (arith, r)
+    draft (refused f) q w = let m = same_number w in let r = fault_number false d f q in omega (arith, r)
     draft (found ss) q w = token (reading true (take (stated d) d)) refl w
 
 -- What they say of a draft that holds a choice,

@@ -1,5 +1,6 @@
 -- Answers in 01's numbers: what the two numbers of an answer say, and those of a call that refuses an illegal token as the
 -- reading does.
+use Rattle.std.specs.Prelude.{Ok, Err}
 use mathlib.Core.Path.{◌≡◌, refl, sym, ap, ◌∙◌}
 use mathlib.Core.Bool.{true}
 use mathlib.Core.List.{List, [], ◌∷◌}
@@ -12,8 +13,7 @@ use Rattle.format.specs.Legal.{Legal}
 use Rattle.format.specs.Reading.{Fault, Outcome, refused, found, reading, row_count, as_answer, answer}
 use Rattle.format.specs.GivenNumbers.{number_of, second_of}
 use Rattle.format.specs.Claims.{answer_numbers}
-use Rattle.format.specs.declared.Answer.{Answer}
-use Rattle.format.specs.declared.Answer.TheVariants.{Accepted, Refused}
+use Rattle.format.specs.Answers.{Answer, Accepted, Refused}
 use Rattle.format.proofs.Accepted.{read_legal}
 use Rattle.format.proofs.Numbering.{fault_number}
 
@@ -31,14 +31,14 @@ refused_told e = ap answer_numbers e
 -- Where no refusal has the number 0, an answer with the number 0 is accepted.
 pub zero_told : (a : Answer) → ((n p : ℕ) → a ≡ Refused n p → 1 ≤ n) → number_of a ≡ 0 → a ≡ Accepted (second_of a)
 unfolding number_of second_of
-zero_told (Accepted n) h e = refl
-zero_told (Refused n p) h e = absurd (let m = h n p refl in omega arith)
+zero_told (Ok n) h e = refl
+zero_told (Err r) h e = absurd (let m = h r.number r.place refl in omega arith)
 
 -- An answer with another number is refused.
 pub other_told : (a : Answer) → (number_of a ≡ 0 → ⊥) → a ≡ Refused (number_of a) (second_of a)
 unfolding number_of second_of
-other_told (Accepted n) h = absurd (h refl)
-other_told (Refused n p) h = refl
+other_told (Ok n) h = absurd (h refl)
+other_told (Err r) h = refl
 
 -- Of a call that writes: 0 and what is counted of what was found, or the refusal's number and place.
 pub outcome_told : {A : Type 0} (count : A → ℕ) (o : Outcome A)

@@ -1,4 +1,5 @@
 pub mod Examples
+pub mod Answers
 pub mod Numbers
 pub mod Finding
 pub mod Dates

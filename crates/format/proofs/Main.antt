@@ -25,8 +25,7 @@ use Rattle.format.specs.Examples.{token_t, Holds, starred, spring_token}
 use Rattle.format.specs.PlaceExamples.{places_read}
 use Rattle.format.specs.TableExamples.{two_rules, two_rules_table}
 use Rattle.format.specs.DateExamples.{with_dates, dates_read}
-use Rattle.format.specs.declared.Answer.TheVariants.{Accepted, Refused}
-use Rattle.format.specs.declared.Step.TheVariants.{End, Stopped}
+use Rattle.format.specs.Answers.{Accepted, Refused, End, Stopped}
 use Rattle.format.proofs.Numbers as Numbers
 use Rattle.format.proofs.Accepted as Accepting
 use Rattle.format.proofs.Unique as Unique

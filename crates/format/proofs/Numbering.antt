@@ -20,7 +20,8 @@ use Rattle.format.specs.Reading.{part_in, part_slots, Test, located, field_check
 use Rattle.format.specs.Reading.{rule_before, section_checks, place_of, mask_offset, after_subsections, section_rest, section, sections}
 use Rattle.format.specs.Reading.{header_checks, reading, row_count, as_answer, answer}
 use Rattle.format.specs.Claims.{InPart}
-use Rattle.format.specs.declared.Answer.TheVariants.{Refused}
+use Rattle.format.specs.Answers.{Refused}
+use Rattle.format.proofs.Answers.{same_number}
 use Rattle.format.proofs.Finding.{and_split, or_else, every_kind, section_kind_sound}
 use Rattle.format.proofs.Tests.{Hold}
 use Rattle.format.proofs.Offsets.{Inner, fields_inner}
@@ -424,6 +425,6 @@ refusal_number bs n p e = go (reading true bs) refl e
     go : (o : Outcome (List Section)) → reading true bs ≡ o → as_answer row_count o ≡ Refused n p → (1 ≤ n) × (n ≤ 21)
     go (found ss) q w = absurd (let z : ◌≡◌ {A = ℕ} 0 1 = cc in omega arith)
     go (refused f) q w =
-        let s : f.number ≡ n = cc in
+        let s = same_number w in
         let t = fault_number true bs f q in
         (omega arith, omega arith)

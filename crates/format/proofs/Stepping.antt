@@ -11,7 +11,7 @@ use Rattle.format.specs.Parts.{size}
 use Rattle.format.specs.Table.{Placed}
 use Rattle.format.specs.Views.{next_place, step_in}
 use Rattle.format.specs.declared.Row.{Row}
-use Rattle.format.specs.declared.Step.TheVariants.{Record, End, Stopped}
+use Rattle.format.specs.Answers.{Record, End, Stopped}
 use Rattle.format.proofs.Unique.{size_pos}
 use Rattle.format.proofs.Grouping.{is_true, is_false}
 use Rattle.format.proofs.Elements.{some_inj}

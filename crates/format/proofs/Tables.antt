@@ -1,4 +1,5 @@
 -- The answers of reading, and of reading into a table, by legality.
+use Rattle.std.specs.Prelude.{Ok, Err}
 use mathlib.Core.Path.{◌≡◌, refl, sym, ap, ap₂, ◌∙◌}
 use mathlib.Core.Bool.{Bool, true, false}
 use mathlib.Core.List.{List, [], ◌∷◌, ◌++◌}
@@ -16,8 +17,8 @@ use Rattle.format.specs.Reading.{Fault, Outcome, refused, found, fault, need, an
 use Rattle.format.specs.Table.{rows, columns, table_of, room_for, table_reading, table_answer, table_after}
 use Rattle.format.specs.GivenNumbers.{number_of, second_of}
 use Rattle.format.specs.Claims.{answer_numbers}
-use Rattle.format.specs.declared.Answer.{Answer}
-use Rattle.format.specs.declared.Answer.TheVariants.{Accepted, Refused}
+use Rattle.format.specs.Answers.{Answer, Accepted, Refused}
+use Rattle.format.proofs.Answers.{same_number, same_place}
 use Rattle.format.proofs.Tests.{found_inj, needed, need_passed, followed, then_found, then_refused}
 use Rattle.format.proofs.Accepted.{legal_read}
 use Rattle.format.proofs.Writing.{told_accepted, told_found}
@@ -50,8 +51,8 @@ legal_not_refused bs l n p e = let q = legal_answer bs l in let z : ◌≡◌ {A
 
 -- An answer is one of the two.
 either_answer : (a : Answer) → ((n : ℕ) × (a ≡ Accepted n)) ⊎ ((n : ℕ) × (p : ℕ) × (a ≡ Refused n p))
-either_answer (Accepted n) = inl (n, refl)
-either_answer (Refused n p) = inr (n, p, refl)
+either_answer (Ok n) = inl (n, refl)
+either_answer (Err r) = inr (r.number, r.place, refl)
 
 pub every_answer : (bs : List ℕ) → ((n : ℕ) × (answer bs ≡ Accepted n)) ⊎ ((n : ℕ) × (p : ℕ) × (answer bs ≡ Refused n p) × (1 ≤ n) × (n ≤ 21))
 every_answer bs = go (either_answer (answer bs))
@@ -154,14 +155,14 @@ table_holds bs t l h =
 -- The refusal 23 is the table's alone: it comes where a token is legal and its rows have no room.
 told_refused : (o : Outcome (List Section)) (n p : ℕ) → as_answer row_count o ≡ Refused n p → (f : Fault) × (o ≡ refused f) × (f.number ≡ n) × (f.place ≡ p)
 unfolding as_answer
-told_refused (refused f) n p e = (f, refl, cc, cc)
+told_refused (refused f) n p e = (f, refl, same_number e, same_place e)
 told_refused (found ss) n p e = absurd (let z : ◌≡◌ {A = ℕ} 0 1 = cc in omega arith)
 
 short : (b : Bool) (m l n : ℕ) (ss : List Section) → leb m l ≡ b → as_answer row_count (need b (fault 23 (row_count ss) (row_count ss)) (found ss)) ≡ Refused 23 n
     → (l < m) × (row_count ss ≡ n)
 unfolding as_answer need
 short true m l n ss q e = absurd (let z : ◌≡◌ {A = ℕ} 0 1 = cc in omega arith)
-short false m l n ss q e = (leb-false m l q, cc)
+short false m l n ss q e = (leb-false m l q, same_place e)
 
 lacks : (bs t : List ℕ) (n : ℕ) → Bytes bs → (o : Outcome (List Section)) → reading true bs ≡ o
     → as_answer row_count (and_then o (λ ss. need (room_for (parts_of ss) t) (fault 23 (row_count ss) (row_count ss)) (found ss))) ≡ Refused 23 n

@@ -1,5 +1,6 @@
 -- The views of a legal token: each field's bytes, end to end the part's; the refusals for any other row, field or
 -- token.
+use Rattle.std.specs.Prelude.{Ok, Err}
 use mathlib.Core.Path.{◌≡◌, refl, sym, ap, ap₂, ◌∙◌, subst}
 use mathlib.Core.Bool.{Bool, true, false}
 use mathlib.Core.List.{List, [], ◌∷◌, ◌++◌}
@@ -22,9 +23,8 @@ use Rattle.format.specs.Reading.{Fault, refused, found, reading, parts_of, answe
 use Rattle.format.specs.Table.{Placed, after_header, placed}
 use Rattle.format.specs.Views.{slot_of, field_at, bytes_there, view, whether_there, view_answer}
 use Rattle.format.specs.GivenNumbers.{number_of, second_of, offset_of, length_of}
-use Rattle.format.specs.declared.Answer.TheVariants.{Accepted, Refused}
-use Rattle.format.specs.declared.Where.{Where}
-use Rattle.format.specs.declared.Where.TheVariants.{At, Missing}
+use Rattle.format.specs.Answers.{Accepted, Refused, Where, At, Missing}
+use Rattle.format.proofs.Answers.{at_inj}
 use Rattle.format.proofs.Numbers.{append_inj}
 use Rattle.format.proofs.Slots.{written_laid}
 use Rattle.format.proofs.Unique.{size_any}
@@ -201,10 +201,6 @@ pub view_refused : (bs : List ℕ) (f : Fault) (k j : ℕ) → reading true bs �
     → (view bs k j ≡ []) × (view_answer bs k j ≡ Refused f.number f.place)
 view_refused bs f k j e = missing bs k j f.number f.place (no_token bs f k j e)
 
--- What lies somewhere lies at one place, with one width.
-at_inj : {a b o n : ℕ} → At a b ≡ At o n → (a ≡ o) × (b ≡ n)
-at_inj e = (cc, cc)
-
 -- What lies somewhere is not missing.
 not_at : {o n a b : ℕ} → At o n ≡ Missing a b → ⊥
 not_at e = let z : ◌≡◌ {A = ℕ} 0 1 = cc in omega arith
@@ -309,8 +305,8 @@ view_numbers bs k j b =
 -- Where a field lies, as numbers: those of its slot, and 0 on refusal.
 nowhere_told : (w : Where) → (number_of (whether_there w) ≡ 0 → ⊥) → (offset_of w ≡ 0) × (length_of w ≡ 0)
 unfolding number_of offset_of length_of
-nowhere_told (At o n) h = absurd (h refl)
-nowhere_told (Missing n p) h = (refl, refl)
+nowhere_told (Ok w) h = absurd (h refl)
+nowhere_told (Err r) h = (refl, refl)
 
 pub field_numbers : (bs : List ℕ) (k j : ℕ)
     → ((l : Legal bs) (x : Placed) (s : Slot) → IsRow bs l k x → get_elem? (slots_of bs x) j ≡ some s

@@ -18,8 +18,7 @@ use Rattle.format.specs.Table.{Placed, Before, after_header, after, placed, rows
 use Rattle.format.specs.Views.{next_place, step_in, step_at, place_after}
 use Rattle.format.specs.GivenNumbers.{step_number, step_second, row_kind, row_offset, row_length, row_owner, row_rule, next_of}
 use Rattle.format.specs.declared.Row.{Row}
-use Rattle.format.specs.declared.Step.{Step}
-use Rattle.format.specs.declared.Step.TheVariants.{Record, End, Stopped}
+use Rattle.format.specs.Answers.{Step, Record, End, Stopped}
 use Rattle.format.proofs.Finding.{section_id_pos}
 use Rattle.format.proofs.Accepted.{legal_read}
 use Rattle.format.proofs.Numbering.{fault_number}

@@ -17,7 +17,7 @@ use Rattle.format.specs.Rules.{longest, Section, sections_of, has_required}
 use Rattle.format.specs.Legal.{Lawful, Legal}
 use Rattle.format.specs.Reading.{Outcome, refused, found, and_then, id_of, stated, as_answer, length_allowed, reading, parts_of}
 use Rattle.format.specs.Writer.{draft_after, start, longer, addition, finish}
-use Rattle.format.specs.declared.Answer.TheVariants.{Accepted}
+use Rattle.format.specs.Answers.{Accepted}
 use Rattle.format.proofs.Finding.{and_join}
 use Rattle.format.proofs.Unique.{written_length, one_choice}
 use Rattle.format.proofs.Refusing.{addition_passed, addition_found}

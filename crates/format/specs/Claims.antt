@@ -1,6 +1,6 @@
 -- What the theorems of proofs/Main speak of beyond the definitions of the format; each comment names those that use it.
 -- Beside proofs/Main. `set l k x` is l with x for element k; in Main `(x : A) × B` says that there is an x with B.
-use Rattle.std.specs.Prelude.{◌≡◌, Bool, true, false, List, [], ◌∷◌, ◌++◌, ◌⊎◌, ℕ, zero, suc, ◌+◌, ◌/◌, ◌%◌, ◌≤◌, ◌<◌, eqb, length, take, drop, set}
+use Rattle.std.specs.Prelude.{◌≡◌, Bool, true, false, List, [], ◌∷◌, ◌++◌, ◌⊎◌, ℕ, zero, suc, ◌+◌, ◌/◌, ◌%◌, ◌≤◌, ◌<◌, eqb, length, take, drop, set, Ok, Err, Some, None}
 use Rattle.std.proofs.Math.Option.{some}
 use Rattle.std.proofs.Math.ListN.{get_elem?}
 use Rattle.format.specs.Bytes.{how_many}
@@ -14,10 +14,8 @@ use Rattle.format.specs.Table.{Placed, after_header, placed}
 use Rattle.format.specs.Views.{view, step_at, place_after}
 use Rattle.format.specs.GivenNumbers.{number_of, second_of, step_number, step_second, row_kind, row_offset, row_length, row_owner, row_rule, next_of}
 use Rattle.format.specs.Writer.{draft_after, addition}
-use Rattle.format.specs.declared.Answer.{Answer}
+use Rattle.format.specs.Answers.{Answer, Step}
 use Rattle.format.specs.declared.Row.{Row}
-use Rattle.format.specs.declared.Step.{Step}
-use Rattle.format.specs.declared.Step.TheVariants.{Record, End, Stopped}
 
 -- ---- answers in 01's numbers
 
@@ -93,7 +91,7 @@ views_from bs k j (suc n) = view bs k j ++ views_from bs k (suc j) n
 -- The records from a place on, following each one's next place, in d turns at most. In `walk_gives_the_rows`.
 abbrev pub walk : ℕ → List ℕ → ℕ → List Row
 walk zero bs at = []
-walk (suc d) bs at = elim (step_at bs at) [ Record r next ↦ r ∷ walk d bs next | End ↦ [] | Stopped n p ↦ [] ]
+walk (suc d) bs at = elim (step_at bs at) [ Ok (Some s) ↦ s.row ∷ walk d bs s.next | Ok None ↦ [] | Err r ↦ [] ]
 
 -- The place that d steps lead to. In `walk_gives_the_rows`.
 abbrev pub walk_place : ℕ → List ℕ → ℕ → ℕ

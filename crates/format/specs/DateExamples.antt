@@ -2,7 +2,7 @@
 -- Beside 02: 102.
 use Rattle.std.specs.Prelude.{List, [], ◌∷◌, ◌++◌, ℕ, replicate, set}
 use Rattle.format.specs.Examples.{token_t, Example, read}
-use Rattle.format.specs.declared.Answer.TheVariants.{Accepted, Refused}
+use Rattle.format.specs.Answers.{Accepted, Refused}
 
 -- the smallest token with dates at the end of its section 14, at place 80: these flags, activation, expiration
 abbrev pub with_dates : ℕ → List ℕ → List ℕ → List ℕ

@@ -2,8 +2,7 @@
 use Rattle.std.specs.Prelude.{◌≡◌, Bool, true, false, List, [], ◌∷◌, ◌++◌, ℕ, replicate, set}
 use Rattle.format.specs.Forms.{date_exists}
 use Rattle.format.specs.Reading.{answer}
-use Rattle.format.specs.declared.Answer.{Answer}
-use Rattle.format.specs.declared.Answer.TheVariants.{Accepted, Refused}
+use Rattle.format.specs.Answers.{Answer, Accepted, Refused}
 
 -- the smallest token
 abbrev pub token_t : List ℕ

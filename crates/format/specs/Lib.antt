@@ -1,10 +1,12 @@
 pub mod Bytes
 pub mod Layout
 pub mod Parts
+pub mod KindNames
 pub mod Forms
 pub mod Rules
 pub mod Legal
 pub mod Slots
+pub mod Answers
 pub mod Reading
 pub mod Table
 pub mod Views

@@ -1,11 +1,10 @@
 -- The lines of the listing, each ended by a newline.
 -- Beside 01: T's listing and the paragraph after it. Beside 02: 108.
-use Rattle.std.specs.Prelude.{true, false, List, [], ◌∷◌, ◌++◌, map, ℕ, zero, suc, ◌+◌, ◌-◌, ◌/◌, ◌%◌, eqb, ltb, length, replicate}
+use Rattle.std.specs.Prelude.{true, false, List, [], ◌∷◌, ◌++◌, map, ℕ, zero, suc, ◌+◌, ◌-◌, ◌/◌, ◌%◌, eqb, ltb, length, replicate, Ok, Err}
 use Prim.Native.Char.{code}
 use Prim.Native.String.{String, [] as empty, ◌∷◌ as ◌followed-by◌}
 use Rattle.format.specs.Table.{row_numbers}
-use Rattle.format.specs.declared.Answer.{Answer}
-use Rattle.format.specs.declared.Answer.TheVariants.{Accepted, Refused}
+use Rattle.format.specs.Answers.{Answer}
 use Rattle.format.specs.declared.Row.{Row}
 
 -- the bytes of a text: `empty` has none, `c followed-by s` is the character c and then s, `code c` here its number
@@ -37,9 +36,9 @@ id_text i = elim (eqb i 0x1E) [ true ↦ text "external" | false ↦ elim (eqb i
 
 -- the first line, from the token's id, its length and the reading's answer
 unfoldable pub first_line : ℕ → ℕ → Answer → List ℕ
-first_line i n (Accepted rows) =
+first_line i n (Ok rows) =
     text "token " ++ id_text i ++ text " " ++ decimal n ++ text " bytes " ++ decimal rows ++ text " rows\n"
-first_line i n (Refused number place) = text "refused " ++ decimal number ++ text " at " ++ decimal place ++ text "\n"
+first_line i n (Err r) = text "refused " ++ decimal r.number ++ text " at " ++ decimal r.place ++ text "\n"
 
 -- a tag in four digits, and - for a section
 abbrev pub tag_text : ℕ → List ℕ

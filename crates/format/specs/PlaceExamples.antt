@@ -2,7 +2,7 @@
 -- Beside 02: 107; the places are worked out by hand, from the layouts of 01.
 use Rattle.std.specs.Prelude.{List, [], ◌∷◌, ◌++◌, ℕ, ◌+◌, length, replicate, set}
 use Rattle.format.specs.Examples.{token_t, rule_stating, with_rule, Example, read}
-use Rattle.format.specs.declared.Answer.TheVariants.{Accepted, Refused}
+use Rattle.format.specs.Answers.{Accepted, Refused}
 
 -- the smallest token with these bytes after it, at place 80
 abbrev pub followed_by : List ℕ → List ℕ

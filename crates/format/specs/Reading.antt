@@ -24,8 +24,7 @@ use Rattle.format.specs.Slots.{least, Slot, slots, offset_of, slot_bytes, fields
 use Rattle.format.specs.Parts.{Kind, kinds, rule, information, token_parameters, section_id, tag, body, is_subsection, layout, header}
 use Rattle.format.specs.Parts.{same_kind, Part, size, external, known_id}
 use Rattle.format.specs.Rules.{longest, Check, check, checks, Section, has, same_rule_id, mask_covers, has_required}
-use Rattle.format.specs.declared.Answer.{Answer}
-use Rattle.format.specs.declared.Answer.TheVariants.{Accepted, Refused}
+use Rattle.format.specs.Answers.{Answer, Accepted, Refused}
 
 -- a refusal: its number; the start of the part at fault, 0 for the header; and its place, or the number that 01 names in its stead
 pub record Fault : Type 0 where

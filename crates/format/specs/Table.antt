@@ -4,7 +4,7 @@ use Rattle.std.specs.Prelude.{Bool, true, false, List, [], ◌∷◌, ◌++◌, 
 use Rattle.format.specs.Parts.{rule, section_id, is_subsection, kind_number, same_kind, Part, size, span}
 use Rattle.format.specs.Rules.{Section}
 use Rattle.format.specs.Reading.{Outcome, refused, found, fault, need, and_then, reading, parts_of, row_count, as_answer}
-use Rattle.format.specs.declared.Answer.{Answer}
+use Rattle.format.specs.Answers.{Answer}
 use Rattle.format.specs.declared.Row.{Row}
 
 -- a row with the part that it stands for

@@ -1,6 +1,6 @@
 -- Views of single fields, and the walk over the rows. Here an illegal token refuses first, with its own number.
 -- Beside 01: "Table, views, walk" and 22.
-use Rattle.std.specs.Prelude.{true, false, List, [], ◌∷◌, ℕ, ◌+◌, eqb, length, drop}
+use Rattle.std.specs.Prelude.{true, false, List, [], ◌∷◌, ℕ, ◌+◌, eqb, length, drop, Ok, Err, Some, None}
 use Rattle.std.proofs.Math.Option.{none, some}
 use Rattle.std.proofs.Math.ListN.{get_elem?}
 use Rattle.format.specs.Bytes.{bytes_at}
@@ -8,13 +8,8 @@ use Rattle.format.specs.Slots.{slots}
 use Rattle.format.specs.Parts.{Part, layout}
 use Rattle.format.specs.Reading.{refused, found, reading, parts_of}
 use Rattle.format.specs.Table.{after_header, placed, rows}
-use Rattle.format.specs.declared.Answer.{Answer}
-use Rattle.format.specs.declared.Answer.TheVariants.{Accepted, Refused}
+use Rattle.format.specs.Answers.{Answer, Accepted, Refused, Where, At, Missing, Step, Record, End, Stopped}
 use Rattle.format.specs.declared.Row.{Row}
-use Rattle.format.specs.declared.Where.{Where}
-use Rattle.format.specs.declared.Where.TheVariants.{At, Missing}
-use Rattle.format.specs.declared.Step.{Step}
-use Rattle.format.specs.declared.Step.TheVariants.{Record, End, Stopped}
 
 -- ---- views
 
@@ -40,8 +35,8 @@ field_at bs row field =
 
 -- the bytes that lie there, none on refusal
 abbrev pub bytes_there : List ℕ → Where → List ℕ
-bytes_there bs (At o n) = bytes_at bs o n
-bytes_there bs (Missing n p) = []
+bytes_there bs (Ok w) = bytes_at bs w.offset w.length
+bytes_there bs (Err r) = []
 
 -- the view: the part of the bytes that the field occupies
 unfoldable pub view : List ℕ → ℕ → ℕ → List ℕ
@@ -49,8 +44,8 @@ view bs row field = bytes_there bs (field_at bs row field)
 
 -- 0, or the refusal
 abbrev pub whether_there : Where → Answer
-whether_there (At o n) = Accepted 0
-whether_there (Missing n p) = Refused n p
+whether_there (Ok w) = Accepted 0
+whether_there (Err r) = Refused r.number r.place
 
 -- the view's partner question
 unfoldable pub view_answer : List ℕ → ℕ → ℕ → Answer
@@ -78,6 +73,6 @@ step_at bs at =
 
 -- the place that the reader of held bytes goes to after a step: the next row's, and at the end or a refusal its own
 abbrev pub place_after : ℕ → Step → ℕ
-place_after at (Record r next) = next
-place_after at End = at
-place_after at (Stopped n p) = at
+place_after at (Ok (Some s)) = s.next
+place_after at (Ok None) = at
+place_after at (Err r) = at

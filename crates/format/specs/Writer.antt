@@ -7,7 +7,7 @@ use Rattle.format.specs.Layout.{Fields, fits}
 use Rattle.format.specs.Parts.{Kind, layout, Part, size, written, joins, known_id}
 use Rattle.format.specs.Rules.{longest, Section}
 use Rattle.format.specs.Reading.{Outcome, refused, found, fault, need, and_then, id_of, stated, reading, parts_of, as_answer}
-use Rattle.format.specs.declared.Answer.{Answer}
+use Rattle.format.specs.Answers.{Answer}
 
 -- the answer of a call that writes: the refusal, or the draft's length
 abbrev pub write_answer : Outcome (List ℕ) → Answer

@@ -2,6 +2,11 @@
 // the format stand in specs/, the theorems about them in proofs/.
 #![tactic(auto)]
 
+pub mod kinds; // kinds.rt: the kinds of sections and subsections
+pub mod refusals; // refusals.rt: the numbers of the refusals
+
+ghost use Rattle.std.specs.Prelude.{◌≡◌, ◌^◌, ◌<◌};
+
 // A token is at most this long.
 pub const LONGEST: usize = 3500;
 
@@ -20,17 +25,28 @@ pub const ROWS: usize = 300;
 // A table of this many numbers has room for any token.
 pub const TABLE: usize = COLUMNS * ROWS;
 
-// The answer of reading, of a view's partner question, of a line of the listing and of each call of the writer: accepted with its second number, or the refusal's number and place.
-#[derive(Drop)]
-#[derive(Clone, Copy)]
-pub enum Answer {
-    Accepted(u32),
-    Refused(u32, u32),
+// Why a call is refused: the refusal's number and its place. In the definitions an answer that is refused is `Refused` with both.
+#[derive(Clone, Copy, Debug, PartialEq, Eq)]
+pub struct Refusal {
+    pub number: u32,
+    pub place: u32,
+}
+
+impl Refusal {
+    // The refusal of this number at a place.
+    pub fn at(number: u32, place: usize) -> Refusal
+        requires { place < 2 ^ 32 }
+        ensures { result ≡ record { number = number; place = place } }
+    {
+        Refusal {
+            number,
+            place: place as u32,
+        }
+    }
 }
 
 // A row of the table: a section or a subsection of the token.
-#[derive(Drop)]
-#[derive(Clone, Copy)]
+#[derive(Clone, Copy, Debug, PartialEq, Eq)]
 pub struct Row {
     pub kind: u32,
     pub offset: u32,
@@ -39,19 +55,16 @@ pub struct Row {
     pub rule: u32,
 }
 
-// What a view asks for: where a field lies in the token and how long it is, or the refusal's number and place.
-#[derive(Drop)]
-#[derive(Clone, Copy)]
-pub enum Where {
-    At(u32, u32),
-    Missing(u32, u32),
+// Where a field lies in the token, and how long it is.
+#[derive(Clone, Copy, Debug, PartialEq, Eq)]
+pub struct Span {
+    pub offset: u32,
+    pub length: u32,
 }
 
-// A step of the walk: a row with the next row's place, the end, or the refusal's number and place.
-#[derive(Drop)]
-#[derive(Clone, Copy)]
-pub enum Step {
-    Record(Row, u32),
-    End,
-    Stopped(u32, u32),
+// A step of the walk that comes to a row: the row, and the place of the next.
+#[derive(Clone, Copy, Debug, PartialEq, Eq)]
+pub struct RowStep {
+    pub row: Row,
+    pub next: u32,
 }

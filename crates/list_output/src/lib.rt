@@ -5,8 +5,8 @@ ghost use Rattle.std.specs.Prelude.{OnOk, length, take, ◌≤◌};
 ghost use Rattle.std.specs.Io.KnownBytes.{Appends, Consumes};
 ghost use Rattle.format.specs.Lines.{first_line, row_line};
 
-use format::{Answer, Row};
-use listing::{first_line, row_line};
+use format::{Refusal, Row};
+use listing::{first, of_row};
 use std::io;
 use std::io::{Read, Write};
 
@@ -16,6 +16,7 @@ pub fn read_full<R: Read>(input: &mut R, bytes: &mut [u8]) -> usize
     ensures read { Consumes (R.remaining input.old) (R.remaining input.new) (take result bytes.new) }
 {
     let mut done = 0;
+    // No plainer as a `for`: a step is as long as what was read.
     while done < bytes.len() {
         let Ok(n) = input.read(&mut bytes[done..]) else {
             break;
@@ -29,27 +30,20 @@ pub fn read_full<R: Read>(input: &mut R, bytes: &mut [u8]) -> usize
 }
 
 // Writes the first line.
-pub fn write_first<W: Write>(out: &mut W, id: u8, length: u32, answer: Answer) -> io::Result<()>
+pub fn write_first<W: Write>(
+    out: &mut W,
+    id: u8,
+    length: u32,
+    answer: Result<u32, Refusal>,
+) -> io::Result<()>
     ensures { OnOk result (Appends (W.contents out.old) (W.contents out.new) (first_line id length answer)) }
 {
-    let mut line = [0u8; 96];
-    let a = first_line(&mut line, id, length, answer);
-    let Answer::Accepted(n) = a else {
-        return Ok(());
-    };
-    let end = n as usize;
-    out.write_all(&line[..end])
+    out.write_all(first(id, length, answer).as_slice())
 }
 
 // Writes the line of a row.
 pub fn write_row<W: Write>(out: &mut W, place: u32, row: Row) -> io::Result<()>
     ensures { OnOk result (Appends (W.contents out.old) (W.contents out.new) (row_line place row)) }
 {
-    let mut line = [0u8; 96];
-    let a = row_line(&mut line, place, row);
-    let Answer::Accepted(n) = a else {
-        return Ok(());
-    };
-    let end = n as usize;
-    out.write_all(&line[..end])
+    out.write_all(of_row(place, row).as_slice())
 }

@@ -6,8 +6,7 @@ use Rattle.format.specs.Legal.{Legal}
 use Rattle.format.specs.Reading.{Outcome, Fault, refused, found, id_of, reading, parts_of, row_count, as_answer, answer}
 use Rattle.format.specs.Table.{rows, columns, table_reading, table_answer, table_after}
 use Rattle.format.specs.Lines.{first_line}
-use Rattle.format.specs.declared.Answer.{Answer}
-use Rattle.format.specs.declared.Answer.TheVariants.{Accepted, Refused}
+use Rattle.format.specs.Answers.{Answer, Accepted, Refused}
 use Rattle.format.specs.declared.Row.{Row}
 use Rattle.format.proofs.Accepted.{legal_read}
 use Rattle.format.proofs.Tests.{then_refused}

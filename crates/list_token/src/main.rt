@@ -9,7 +9,7 @@ ghost use Rattle.format.specs.Table.{columns};
 ghost use Rattle.format.specs.Lines.{row_line};
 ghost use Rattle.list_token.specs.Listing.{row_in, table_lines, listing};
 
-use format::{Answer, COLUMNS, LONGEST, ROWS, Row, TABLE};
+use format::{COLUMNS, LONGEST, ROWS, Row, TABLE};
 use list_output::{read_full, write_first, write_row};
 use reading::read_table;
 use std::io;
@@ -49,10 +49,7 @@ fn write_rows<W: Write>(out: &mut W, table: &[u32; TABLE], n: usize) -> io::Resu
 fn id_of(token: &[u8]) -> u8
     ensures { result ≡ id_of token.now }
 {
-    if token.len() == 0 {
-        return 0;
-    }
-    token[0]
+    token.first().copied().unwrap_or(0)
 }
 
 // Writes the listing of a token.
@@ -64,15 +61,11 @@ fn list<W: Write>(out: &mut W, token: &[u8]) -> io::Result<()>
     let answer = read_table(token, &mut table);
     let id = id_of(token);
     let length = token.len() as u32;
-    match answer {
-        Answer::Refused(number, place) => {
-            write_first(out, id, length, Answer::Refused(number, place))
-        }
-        Answer::Accepted(rows) => {
-            write_first(out, id, length, Answer::Accepted(rows))?;
-            write_rows(out, &table, rows as usize)
-        }
-    }
+    write_first(out, id, length, answer)?;
+    let Ok(rows) = answer else {
+        return Ok(());
+    };
+    write_rows(out, &table, rows as usize)
 }
 
 fn main(rt: HostRuntime) -> io::Result<()> {

@@ -1,4 +1,3 @@
 pub mod Digits
 pub mod Numerals
-pub mod Stores
 pub mod Words

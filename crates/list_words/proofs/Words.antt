@@ -4,7 +4,7 @@ use mathlib.Core.List.{List, [], ◌∷◌, ◌++◌, append_assoc}
 use Prim.Native.Nat.{ℕ, ◌/◌, ◌%◌}
 use lib.Dec.{eqb}
 use borrow.Author.Tests.{ne_eqb}
-use Rattle.format.specs.Lines.{text, hexadecimal, id_text, tag_text, kind_text}
+use Rattle.format.specs.Lines.{text, hexadecimal, tag_text, kind_text}
 use Rattle.format.proofs.Grouping.{is_false}
 use Rattle.list_words.specs.Numerals.{numeral}
 use Rattle.list_words.proofs.Numerals.{hexadecimal_is}
@@ -18,9 +18,3 @@ pub kind_is : (k : ℕ) → (numeral 16 2 (k / 65536) ++ (32 ∷ [])) ++ (tag_te
 kind_is k =
     ap (λ (h : List ℕ). (h ++ (32 ∷ [])) ++ (tag_text (k % 65536) ++ (32 ∷ []))) (sym (hexadecimal_is 2 (k / 65536)))
     ∙ sym (append_assoc (hexadecimal 2 (k / 65536) ++ (32 ∷ [])) (tag_text (k % 65536)) (32 ∷ []))
-
--- an id that is neither of the two
-pub id_unknown : (i : ℕ) → (i ≡ 0x1E → ⊥) → (i ≡ 0x1F → ⊥) → id_text i ≡ text "unknown"
-id_unknown i h k =
-    is_false (eqb i 0x1E) (text "external") _ (ne_eqb i 0x1E h)
-    ∙ is_false (eqb i 0x1F) (text "internal") (text "unknown") (ne_eqb i 0x1F k)

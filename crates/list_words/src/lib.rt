@@ -1,12 +1,17 @@
-// Internal: words and numbers, stored one after the other in a line. Each call gives the place after what it stored.
+// Internal: words and numbers, put one after the other into a line. No plainer by `write!`, whose answer could be an error
+// that no line comes to.
 #![tactic(auto)]
 
 ghost use Rattle.std.specs.Prelude.{◌≡◌, ◌++◌, ◌∷◌, [], ◌+◌, ◌<◌, ◌≤◌, max, length};
 ghost use Rattle.format.specs.Lines.{digit_text, id_text, tag_text, kind_text};
 ghost use Rattle.list_words.specs.Numerals.{digit_count, numeral};
-ghost use Rattle.write_bytes.specs.Storing.{Stored};
 
-use write_bytes::put;
+use write_bytes::Buffer;
+
+// Enough bytes for any line.
+pub const LINE: usize = 96;
+
+pub type Line = Buffer<LINE>;
 
 // A digit's character, 0 to 9 and A to F.
 fn digit_text(d: u32) -> u8
@@ -20,81 +25,60 @@ fn digit_text(d: u32) -> u8
     }
 }
 
-// How many digits n has in a base, which is 10 or more.
-fn digit_count(n: u32, base: u32) -> usize
-    requires { 10 ≤ base }
-    ensures { (result ≡ digit_count base n) × (result ≤ 10) }
+// The digits of n in a base, and zeros before them where they are fewer than `width`.
+fn put_digits(line: &mut Line, n: u32, base: u32, width: usize)
+    requires { (10 ≤ base) × (base ≤ 16) × (length line.old + max width (digit_count base n) ≤ 96) }
+    ensures bytes { line.new ≡ line.old ++ numeral base width n }
+    ensures len { length line.new ≡ length line.old + max width (digit_count base n) }
 {
-    let mut rest = n;
-    let mut k = 1;
-    while base <= rest {
-        rest = rest / base;
-        k += 1;
+    if base <= n || 1 < width {
+        put_digits(line, n / base, base, width.saturating_sub(1));
     }
-    k
+    line.put(&[digit_text(n % base)]);
 }
 
-// How many digits n is written with: as many as it has, and at least `width`.
-fn digit_places(n: u32, base: u32, width: usize) -> usize
-    requires { (10 ≤ base) × (width ≤ 10) }
-    ensures { (result ≡ max width (digit_count base n)) × (result ≤ 10) }
+// A number in a base with at least `width` digits, and the byte `end` after it.
+pub fn put_number(line: &mut Line, n: u32, base: u32, width: usize, end: u8)
+    requires { (10 ≤ base) × (base ≤ 16) × (width ≤ 10) × (length line.old + 11 ≤ 96) }
+    ensures bytes { line.new ≡ line.old ++ (numeral base width n ++ (end ∷ [])) }
+    ensures len { length line.new ≤ length line.old + 11 }
 {
-    let k = digit_count(n, base);
-    if k < width {
-        return width;
-    }
-    k
-}
-
-// A number in a base with at least `width` digits, from the place `at` on, and the byte `end` after it.
-pub fn put_number(line: &mut [u8], at: usize, n: u32, base: u32, width: usize, end: u8) -> usize
-    requires { (10 ≤ base) × (base ≤ 16) × (width ≤ 10) × (at + 11 ≤ length line.old) }
-    ensures stored { Stored line.old at (numeral base width n ++ (end ∷ [])) line.new result }
-    ensures short { result ≤ at + 11 }
-{
-    let e = at + digit_places(n, base, width);
-    let mut rest = n;
-    let mut k = e;
-    while at < k {
-        k -= 1;
-        line[k] = digit_text(rest % base);
-        rest = rest / base;
-    }
-    line[e] = end;
-    e + 1
+    put_digits(line, n, base, width);
+    line.put(&[end]);
 }
 
 // The word for a token's id, and a space after it.
-pub fn put_id(line: &mut [u8], at: usize, id: u8) -> usize
-    requires { at + 9 ≤ length line.old }
-    ensures stored { Stored line.old at (id_text id ++ (32 ∷ [])) line.new result }
-    ensures short { result ≤ at + 9 }
+pub fn put_id(line: &mut Line, id: u8)
+    requires { length line.old + 9 ≤ 96 }
+    ensures bytes { line.new ≡ line.old ++ (id_text id ++ (32 ∷ [])) }
+    ensures len { length line.new ≤ length line.old + 9 }
 {
-    match id {
-        0x1E => put(line, at, b"external "),
-        0x1F => put(line, at, b"internal "),
-        _ => put(line, at, b"unknown "),
-    }
+    line.put(match id {
+        0x1E => b"external ",
+        0x1F => b"internal ",
+        _ => b"unknown ",
+    });
 }
 
 // A tag in four digits, - for a section, and a space after it.
-fn put_tag(line: &mut [u8], at: usize, tag: u32) -> usize
-    requires { at + 11 ≤ length line.old }
-    ensures stored { Stored line.old at (tag_text tag ++ (32 ∷ [])) line.new result }
-    ensures short { result ≤ at + 11 }
+fn put_tag(line: &mut Line, tag: u32)
+    requires { length line.old + 11 ≤ 96 }
+    ensures bytes { line.new ≡ line.old ++ (tag_text tag ++ (32 ∷ [])) }
+    ensures len { length line.new ≤ length line.old + 11 }
 {
     if tag == 0 {
-        return put(line, at, b"- ");
+        line.put(b"- ");
+    } else {
+        put_number(line, tag, 16, 4, b' ');
     }
-    put_number(line, at, tag, 16, 4, b' ')
 }
 
 // The number of a kind, as its section id in two digits and its tag, and a space after it.
-pub fn put_kind(line: &mut [u8], at: usize, kind: u32) -> usize
-    requires { at + 22 ≤ length line.old }
-    ensures stored { Stored line.old at (kind_text kind ++ (32 ∷ [])) line.new result }
-    ensures short { result ≤ at + 22 }
+pub fn put_kind(line: &mut Line, kind: u32)
+    requires { length line.old + 22 ≤ 96 }
+    ensures bytes { line.new ≡ line.old ++ (kind_text kind ++ (32 ∷ [])) }
+    ensures len { length line.new ≤ length line.old + 22 }
 {
-    let tag = put_number(line, at, kind / 65536, 16, 2, b' ');
-    put_tag(line, tag, kind % 65536)
+    put_number(line, kind / 65536, 16, 2, b' ');
+    put_tag(line, kind % 65536);
 }

@@ -1,12 +1,12 @@
 -- Lines that are the same have the same columns, and so the same numbers. Assumes nothing.
+use Rattle.std.specs.Prelude.{Ok, Err}
 use mathlib.Core.Path.{◌≡◌, sym, ap, ap₂, ◌∙◌}
 use mathlib.Core.List.{List, [], ◌∷◌, head-eq_of_cons-eq}
 use Prim.Native.Nat.{ℕ, ◌/◌, ◌%◌}
 use native.Mathlib.Omega.{arith}
 use Rattle.format.specs.Bytes.{All}
 use Rattle.format.specs.Lines.{id_text, first_line, row_line}
-use Rattle.format.specs.declared.Answer.{Answer}
-use Rattle.format.specs.declared.Answer.TheVariants.{Accepted, Refused}
+use Rattle.format.specs.Answers.{Answer, Accepted, Refused}
 use Rattle.format.specs.declared.Row.{Row}
 use Rattle.format.proofs.Rows.{row_same}
 use Rattle.list_words.specs.Numerals.{numeral}
@@ -107,11 +107,9 @@ accepted_not_refused i j n m rows number place h =
 
 -- first lines that are the same are of the same answer
 pub answers_apart : (i j n m : ℕ) (a b : Answer) → first_line i n a ≡ first_line j m b → a ≡ b
-answers_apart i j n m (Accepted rows) (Accepted more) h = ap Accepted (accepted_apart i j n m rows more h).2
-answers_apart i j n m (Accepted rows) (Refused number place) h =
-    absurd (accepted_not_refused i j n m rows number place h)
-answers_apart i j n m (Refused number place) (Accepted rows) h =
-    absurd (accepted_not_refused j i m n rows number place (sym h))
-answers_apart i j n m (Refused number place) (Refused other there) h =
-    let e : (number ≡ other) × (place ≡ there) = refused_apart i j n m number place other there h in
+answers_apart i j n m (Ok rows) (Ok more) h = ap Accepted (accepted_apart i j n m rows more h).2
+answers_apart i j n m (Ok rows) (Err r) h = absurd (accepted_not_refused i j n m rows r.number r.place h)
+answers_apart i j n m (Err r) (Ok rows) h = absurd (accepted_not_refused j i m n rows r.number r.place (sym h))
+answers_apart i j n m (Err r) (Err s) h =
+    let e : (r.number ≡ s.number) × (r.place ≡ s.place) = refused_apart i j n m r.number r.place s.number s.place h in
     ap₂ Refused e.0 e.1

@@ -1,18 +1,15 @@
--- A line that was stored, cut out, and placed in a lent buffer. Assumes nothing.
-use mathlib.Core.Path.{◌≡◌, sym, ap, ◌∙◌}
+-- A line that is placed in a lent buffer. Assumes nothing.
+use mathlib.Core.Path.{◌≡◌}
 use mathlib.Core.Logic.{⊎_elim}
 use mathlib.Core.Bool.{true, false}
 use mathlib.Core.List.{List, ◌++◌}
 use Prim.Native.Nat.{ℕ, ◌<◌, ◌≤◌}
-use native.Mathlib.Nat.{zero-add}
 use native.Mathlib.Omega.{arith}
 use lib.Dec.{leb}
 use lib.ListN.{length, drop}
 use borrow.Author.Tests.{le-leb, lt-leb}
-use Rattle.format.specs.declared.Answer.TheVariants.{Accepted, Refused}
+use Rattle.format.specs.Answers.{Accepted, Refused}
 use Rattle.format.proofs.Grouping.{is_true, is_false}
-use Rattle.write_bytes.specs.Storing.{Stored}
-use Rattle.write_bytes.proofs.Stores.{sets_front}
 use Rattle.listing.specs.Buffers.{line_answer, line_in}
 use Rattle.list_words.proofs.Digits.{below_or_not}
 
@@ -30,13 +27,6 @@ unfolding line_answer line_in
 room line old h =
     let e : leb (length line) (length old) ≡ true = le-leb (length line) (length old) h in
     (is_true _ _ _ e, is_true _ _ _ e)
-
--- a line that was stored where there is room for it
-pub line_placed : (line old new : List ℕ) (n : ℕ) → length line ≤ length old → Stored old 0 line new n
-    → (Accepted n ≡ line_answer line old) × (new ≡ line_in line old)
-line_placed line old new n h s =
-    let r = room line old h in
-    (ap Accepted (s.place ∙ zero-add (length line)) ∙ sym r.0, s.bytes ∙ sets_front old line h ∙ sym r.1)
 
 -- an answered length is the line's, and it is at most the buffer's
 pub answered : (line old : List ℕ) (n : ℕ) → line_answer line old ≡ Accepted n

@@ -8,7 +8,7 @@ use native.Mathlib.Omega.{arith}
 use lib.Dec.{eqb}
 use lib.ListN.{length, length-append}
 use Rattle.format.specs.Lines.{text, id_text, tag_text, hexadecimal, first_line, row_line}
-use Rattle.format.specs.declared.Answer.TheVariants.{Accepted, Refused}
+use Rattle.format.specs.Answers.{Accepted, Refused}
 use Rattle.format.specs.declared.Row.{Row}
 use Rattle.list_words.specs.Numerals.{numeral}
 use Rattle.listing.proofs.Lines.{columns, accepted_columns, refused_columns, row_columns, accepted_is, refused_is, row_is}

@@ -1,14 +1,12 @@
--- The lines as columns with a space between them, and as such stored one after the other. Assumes nothing.
+-- The lines as columns with a space between them, and as they are put together. Assumes nothing.
 use mathlib.Core.Path.{◌≡◌, ap, ◌∙◌}
 use mathlib.Core.List.{List, [], ◌∷◌, ◌++◌, append_assoc}
 use Prim.Native.Nat.{ℕ, ◌/◌, ◌%◌}
 use Rattle.format.specs.Lines.{text, decimal, hexadecimal, id_text, tag_text, kind_text, first_line, row_line}
-use Rattle.format.specs.declared.Answer.TheVariants.{Accepted, Refused}
+use Rattle.format.specs.Answers.{Accepted, Refused}
 use Rattle.format.specs.declared.Row.{Row}
 use Rattle.list_words.specs.Numerals.{numeral}
-use Rattle.write_bytes.specs.Storing.{Stored}
 use Rattle.list_words.proofs.Numerals.{decimal_is, hexadecimal_is}
-use Rattle.write_bytes.proofs.Stores.{stored_as, stored_then}
 
 -- columns with a space between them and a newline after the last
 unfoldable pub columns : List (List ℕ) → List ℕ
@@ -93,31 +91,33 @@ row_is n r =
     ∙ same_columns _ _ _ _ (tag_text (r.kind % 65536)) _ _ _ _ _ _ _ _ (decimal_is n) (hexadecimal_is 2 (r.kind / 65536))
     (decimal_is r.offset) (decimal_is r.length) (decimal_is r.owner) (decimal_is r.rule)
 
--- ---- stored one after the other
+-- ---- as they are put together
 
--- two columns with a space after each, and those after that
-kind_columns : (a b y : List ℕ) (ys : List (List ℕ)) → (a ++ text " " ++ b ++ (32 ∷ [])) ++ columns (y ∷ ys) ≡ columns (a ∷ b ∷ y ∷ ys)
+-- the first line of an accepted token, of any texts in the place of its word and its numbers
+pub accepted_put : (a b c : List ℕ)
+    → text "token " ++ (a ++ (32 ∷ [])) ++ (b ++ (32 ∷ [])) ++ text "bytes " ++ (c ++ (32 ∷ [])) ++ text "rows\n"
+    ≡ columns (text "token" ∷ a ∷ b ∷ text "bytes" ∷ c ∷ text "rows" ∷ [])
 unfolding columns
-kind_columns a b y ys = simp append_assoc
+accepted_put a b c = simp append_assoc
 
--- the last column, with a newline after it
-pub last_stored : {old new : List ℕ} {at next : ℕ} (x : List ℕ) → Stored old at (x ++ (10 ∷ [])) new next
-    → Stored old at (columns (x ∷ [])) new next
+-- the line of a refused token
+pub refused_put : (a b : List ℕ)
+    → text "refused " ++ (a ++ (32 ∷ [])) ++ text "at " ++ (b ++ (10 ∷ [])) ≡ columns (text "refused" ∷ a ∷ text "at" ∷ b ∷ [])
 unfolding columns
-last_stored x s = s
+refused_put a b = simp append_assoc
 
--- a column with a space after it, and those after that
-pub column_stored : {old new last : List ℕ} {at next end : ℕ} (x y : List ℕ) (ys : List (List ℕ))
-    → Stored old at (x ++ (32 ∷ [])) new next → Stored new next (columns (y ∷ ys)) last end
-    → Stored old at (columns (x ∷ y ∷ ys)) last end
+-- the line of a row, a kind being two columns
+row_joined : (a b c d e f g : List ℕ)
+    → (a ++ (32 ∷ [])) ++ ((b ++ text " " ++ c) ++ (32 ∷ [])) ++ (d ++ (32 ∷ [])) ++ (e ++ (32 ∷ [])) ++ (f ++ (32 ∷ [])) ++ (g ++ (10 ∷ []))
+    ≡ columns (a ∷ b ∷ c ∷ d ∷ e ∷ f ∷ g ∷ [])
 unfolding columns
-column_stored x y ys f g = stored_as (append_assoc x (32 ∷ []) (columns (y ∷ ys))) (stored_then f g)
+row_joined a b c d e f g = simp append_assoc
 
--- a kind's two columns with a space after them, and those after that
-pub kind_stored : {old new last : List ℕ} {at next end : ℕ} (k : ℕ) (y : List ℕ) (ys : List (List ℕ))
-    → Stored old at (kind_text k ++ (32 ∷ [])) new next → Stored new next (columns (y ∷ ys)) last end
-    → Stored old at (columns (numeral 16 2 (k / 65536) ∷ tag_text (k % 65536) ∷ y ∷ ys)) last end
-unfolding columns
-kind_stored k y ys f g =
-    stored_as (kind_columns (hexadecimal 2 (k / 65536)) (tag_text (k % 65536)) y ys
-    ∙ ap (λ (h : List ℕ). columns (h ∷ tag_text (k % 65536) ∷ y ∷ ys)) (hexadecimal_is 2 (k / 65536))) (stored_then f g)
+pub row_put : (n : ℕ) (r : Row)
+    → (numeral 10 1 n ++ (32 ∷ [])) ++ (kind_text r.kind ++ (32 ∷ [])) ++ (numeral 10 1 r.offset ++ (32 ∷ []))
+    ++ (numeral 10 1 r.length ++ (32 ∷ [])) ++ (numeral 10 1 r.owner ++ (32 ∷ [])) ++ (numeral 10 1 r.rule ++ (10 ∷ []))
+    ≡ columns (row_columns n r)
+row_put n r =
+    row_joined _ (hexadecimal 2 (r.kind / 65536)) (tag_text (r.kind % 65536)) _ _ _ _
+    ∙ ap (λ (h : List ℕ). columns (numeral 10 1 n ∷ h ∷ tag_text (r.kind % 65536) ∷ numeral 10 1 r.offset ∷ numeral 10 1 r.length ∷ numeral 10 1 r.owner ∷ numeral 10 1 r.rule ∷ []))
+    (hexadecimal_is 2 (r.kind / 65536))

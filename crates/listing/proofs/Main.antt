@@ -4,8 +4,7 @@ use mathlib.Core.List.{List, ◌++◌}
 use Prim.Native.Nat.{ℕ, ◌^◌, ◌<◌, ◌≤◌}
 use lib.ListN.{length, drop}
 use Rattle.format.specs.Lines.{id_text, first_line, row_line}
-use Rattle.format.specs.declared.Answer.{Answer}
-use Rattle.format.specs.declared.Answer.TheVariants.{Accepted, Refused}
+use Rattle.format.specs.Answers.{Answer, Accepted, Refused}
 use Rattle.format.specs.declared.Row.{Row}
 use Rattle.listing.specs.Buffers.{line_answer, line_in}
 use Rattle.listing.proofs.Apart.{rows_apart, answers_apart, accepted_apart}

@@ -1,7 +1,6 @@
 -- A line at the start of a lent buffer: what the call answers, and what the buffer then holds.
 use Rattle.std.specs.Prelude.{true, false, List, ◌++◌, ℕ, leb, length, drop}
-use Rattle.format.specs.declared.Answer.{Answer}
-use Rattle.format.specs.declared.Answer.TheVariants.{Accepted, Refused}
+use Rattle.format.specs.Answers.{Answer, Accepted, Refused}
 
 -- 0 with the line's length, or 23 where the buffer, which held the bytes old, is too small for it
 unfoldable pub line_answer : List ℕ → List ℕ → Answer

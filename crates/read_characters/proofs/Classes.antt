@@ -1,11 +1,11 @@
 -- The classes of characters, against the characters of the format. Assumes nothing.
 use mathlib.Core.Path.{◌≡◌, refl, sym, ap, ◌∙◌}
-use mathlib.Core.Bool.{Bool, true, false, not, ◌&&◌, ◌||◌, and-false, true≢false}
+use mathlib.Core.Bool.{Bool, true, false, not, ◌&&◌, ◌||◌, true≢false}
 use mathlib.Core.Logic.{◌⊎◌, inl, inr, ⊎_elim}
-use Prim.Native.Nat.{ℕ, ◌<◌, ◌≤◌}
+use Prim.Native.Nat.{ℕ, ◌≤◌}
 use native.Mathlib.Omega.{arith}
 use lib.Dec.{eqb, leb}
-use borrow.Author.Tests.{le-leb, lt-leb, leb-true, eqb-true}
+use borrow.Author.Tests.{lt-leb, leb-true, eqb-true}
 use Rattle.format.proofs.Finding.{and_split}
 use Rattle.format.specs.Forms.{between, letter, digit, rule_sign, label_sign, star, space, in_rule_id, in_label, plain_label}
 use Rattle.read_fields.proofs.Lists.{yes_or_no}
@@ -86,26 +86,10 @@ pub star_class_is : (b : ℕ) → star b ≡ eqb (class_of b) star_class
 star_class_is = by_class (λ c l d r g t p. t ≡ eqb c star_class) refl refl refl refl refl refl refl
 
 -- may stand first in a label template
-abbrev first_class : ℕ → Bool
+abbrev pub first_class : ℕ → Bool
 first_class c = eqb c letter_class || eqb c label_class || eqb c star_class
 
 pub first_class_is : (b c : ℕ) → c ≡ class_of b → (in_label b && not (digit b)) ≡ first_class c
 first_class_is b c e =
     by_class (λ k l d r g t p. ((l || d || g || t) && not d) ≡ first_class k) refl refl refl refl refl refl refl b
     ∙ ap first_class (sym e)
-
--- ---- classes lo to hi, as the code tests them
-
-module _ (lo hi b : ℕ) {r : ℕ} (e : r ≡ class_of b) where
-  pub class_in : lo ≤ r → r ≤ hi → of_class lo hi b ≡ true
-  unfolding of_class
-  class_in h k =
-      rw (le-leb lo (class_of b) (omega (arith, e)), le-leb (class_of b) hi (omega (arith, e, k)))
-
-  pub class_below : r < lo → of_class lo hi b ≡ false
-  unfolding of_class
-  class_below h = rw (lt-leb lo (class_of b) (omega (arith, e)))
-
-  pub class_above : hi < r → of_class lo hi b ≡ false
-  unfolding of_class
-  class_above k = rw (lt-leb (class_of b) hi (omega (arith, e, k))) (and-false (leb lo (class_of b)))

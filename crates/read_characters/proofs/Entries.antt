@@ -9,7 +9,7 @@ use lib.ListN.{length, get_or}
 use borrow.Author.Tests.{eqb-true}
 use Rattle.format.proofs.Finding.{and_split}
 use Rattle.read_characters.specs.Classes.{class_of, letter_class, digit_class, rule_class, label_class, star_class, space_class, other_class}
-use Rattle.read_characters.specs.Page.{marks, has_marks, have_marks, is_page, Page}
+use Rattle.read_characters.specs.Page.{marks, has_marks, have_marks, is_page, IsPage}
 use Rattle.read_characters.proofs.Classes.{by_class}
 
 -- the entry of the value b + k, where the entries are those of the values from b on
@@ -22,7 +22,7 @@ from (c ∷ cs) b (suc k) t h =
     (from cs (suc b) k (and_split (has_marks b c) (have_marks (suc b) cs) t).1 (le_of_suc-le-suc h))
 
 -- every entry has exactly the marks of its value
-pub entry_marks : (cs : List ℕ) → Page cs → (b : ℕ) → b < 256 → has_marks b (get_or cs b 0) ≡ true
+pub entry_marks : (cs : List ℕ) → IsPage cs → (b : ℕ) → b < 256 → has_marks b (get_or cs b 0) ≡ true
 unfolding is_page
 entry_marks cs t b h =
     let u = and_split (eqb (length cs) 256) (have_marks 0 cs) t in
@@ -49,5 +49,5 @@ marked c =
     (sure (eqb c other_class) (λ e. rw e (simp and-false)))
 
 -- the page gives each value its class
-pub entry_class : (cs : List ℕ) → Page cs → (b : ℕ) → b < 256 → get_or cs b 0 ≡ class_of b
+pub entry_class : (cs : List ℕ) → IsPage cs → (b : ℕ) → b < 256 → get_or cs b 0 ≡ class_of b
 entry_class cs t b h = eqb-true (get_or cs b 0) (class_of b) (marked (get_or cs b 0) b (entry_marks cs t b h))

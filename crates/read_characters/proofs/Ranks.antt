@@ -1,19 +1,20 @@
 -- A Rule ID by the first hexadecimal digits of its characters' classes: 6 for a character of one, 7 for a space, less for any
 -- other. Assumes nothing.
 use mathlib.Core.Path.{◌≡◌, refl, sym, ap, ◌∙◌}
-use mathlib.Core.Bool.{Bool, true, false, ◌&&◌, ◌||◌}
+use mathlib.Core.Bool.{Bool, true, false, not, ◌&&◌, ◌||◌, and-true, and_comm}
 use mathlib.Core.List.{List, [], ◌∷◌}
 use Prim.Native.Nat.{ℕ, ◌+◌, ◌-◌, ◌/◌, ◌<◌, ◌≤◌}
+use native.Mathlib.Numerals.{add-one}
 use native.Mathlib.Omega.{arith}
-use lib.Dec.{eqb, leb, leb-suc-suc, leb-zero}
-use lib.ListN.{length, get_or, drop}
-use borrow.Author.Tests.{le-leb, lt-leb}
+use lib.Seq.{drop-cons}
+use lib.Dec.{eqb, leb, ltb, leb-suc-suc, leb-zero}
+use lib.ListN.{length, get_or, drop, drop_of_length-le}
 use Rattle.format.specs.Bytes.{every, bytes_at}
 use Rattle.format.specs.Forms.{leading, space, in_rule_id, rule_id_form}
 use Rattle.read_characters.specs.Classes.{class_of}
 use Rattle.read_fields.proofs.Lists.{bytes_next, bytes_start}
 use Rattle.read_characters.proofs.Classes.{by_class}
-use Rattle.read_characters.proofs.Runs.{leading_more, leading_stop, flag_falls, flag_stays}
+use Rattle.read_characters.proofs.Runs.{leading_more, leading_stop}
 
 -- the first hexadecimal digit of a character's class
 abbrev rank : ℕ → ℕ
@@ -67,27 +68,21 @@ rule_id_steady b bs =
 
 -- ---- at the places of a field
 
--- n is the class of the byte at p
-module _ (s : List ℕ) (p e : ℕ) {n : ℕ} (class : n ≡ class_of (get_or s p 0)) (h : p < e) (l : e ≤ length s) where
-  -- what is left from p on, in ranks
-  next : (r : ℕ) → steady r (bytes_at s p (e - p))
-      ≡ (leb r (n / 16) && steady (n / 16) (bytes_at s (p + 1) (e - (p + 1))))
-  next r = ap (steady r) (bytes_next s p e h l) ∙ rw (← class)
+-- one turn: n is the class of the k-th byte, r the rank before it, and there was a fall or none
+pub steady_turn : (bs : List ℕ) (k : ℕ) {n : ℕ} → n ≡ class_of (get_or bs k 0) → k < length bs → (falls : Bool) (r : ℕ)
+    → (not (falls || ltb (n / 16) r) && steady (n / 16) (drop (k + 1) bs)) ≡ (not falls && steady r (drop k bs))
+steady_turn bs k {n} class h true r = refl
+steady_turn bs k {n} class h false r = rw (drop-cons bs k 0 h, ← class) (grind (arith, add-one))
 
-  -- no fall at p; a: none before
-  pub steady_on : (a : Bool) (r : ℕ) → r ≤ n / 16
-      → (a && steady r (bytes_at s p (e - p))) ≡ (a && steady (n / 16) (bytes_at s (p + 1) (e - (p + 1))))
-  steady_on a r k =
-      ap (λ (x : Bool). a && x) (next r) ∙ flag_stays a (steady (n / 16) (bytes_at s (p + 1) (e - (p + 1)))) (le-leb r (n / 16) k)
-
-  -- a fall at p
-  pub steady_falls : (a : Bool) (r : ℕ) → n / 16 < r → (a && steady r (bytes_at s p (e - p))) ≡ false
-  steady_falls a r k =
-      ap (λ (x : Bool). a && x) (next r) ∙ flag_falls a (steady (n / 16) (bytes_at s (p + 1) (e - (p + 1)))) (lt-leb r (n / 16) k)
-
--- the Rule ID at i, from the class of its first character and the ranks after it
+-- the Rule ID at i, after the last turn: n is the class of its first character, and the flag tells whether all was steady
 pub rule_id_told : (s : List ℕ) (i : ℕ) {n : ℕ} → n ≡ class_of (get_or s i 0) → i + 8 ≤ length s
-    → rule_id_form (bytes_at s i 8) ≡ (eqb (n / 16) 6 && steady (n / 16) (bytes_at s (i + 1) (i + 8 - (i + 1))))
-rule_id_told s i {n} class l =
+    → let rest = bytes_at s (i + 1) (i + 8 - (i + 1)) in
+    (k : ℕ) → length rest ≤ k → (falls : Bool) (r : ℕ) → (not falls && steady r (drop k rest)) ≡ steady (n / 16) rest
+    → rule_id_form (bytes_at s i 8) ≡ (not falls && eqb (n / 16) 6)
+rule_id_told s i {n} class l k h falls r e =
+    let rest = bytes_at s (i + 1) (i + 8 - (i + 1)) in
+    let steady_all : not falls ≡ steady (n / 16) rest
+    = sym (ap (λ (bs : List ℕ). not falls && steady r bs) (drop_of_length-le rest h) ∙ and-true (not falls)) ∙ e in
     ap rule_id_form (sym (bytes_start s i 8) ∙ bytes_next s i (i + 8) (omega arith) l)
-    ∙ rule_id_steady (get_or s i 0) (bytes_at s (i + 1) (i + 8 - (i + 1))) ∙ rw (← class)
+    ∙ rule_id_steady (get_or s i 0) rest
+    ∙ rw (← class, ← steady_all) (and_comm (eqb (n / 16) 6) (not falls))

@@ -2,22 +2,21 @@
 use mathlib.Core.Path.{◌≡◌, refl, sym, ap, ap₂, ◌∙◌}
 use mathlib.Core.Bool.{Bool, true, false, not, ◌&&◌, ◌||◌, and-true, and-false, and_comm, or-false}
 use mathlib.Core.List.{List, [], ◌∷◌}
-use Prim.Native.Nat.{ℕ, zero, suc, ◌+◌, ◌-◌, ◌<◌, ◌≤◌}
+use Prim.Native.Nat.{ℕ, zero, suc, ◌+◌, ◌≤◌}
 use native.Mathlib.Omega.{arith}
-use native.Mathlib.Nat.{add-zero, zero-add, suc-add, suc-sub-suc, sub-zero}
+use native.Mathlib.Nat.{zero-add, suc-add, suc-sub-suc, sub-zero}
 use native.Mathlib.Numerals.{one-add}
 use lib.Dec.{eqb, leb, eqb-suc-zero, leb-suc-suc, leb-suc-zero, leb-zero}
 use lib.ListN.{length, get_or, take, drop}
 use lib.Seq.{drop-drop}
 use borrow.Author.Tests.{eq-eqb, ne_eqb}
 use Rattle.format.proofs.Grouping.{is_true, is_false}
-use Rattle.format.specs.Bytes.{every, how_many, bytes_at}
+use Rattle.format.specs.Bytes.{every, how_many}
 use Rattle.format.specs.Forms.{leading, digit, star, space, in_label, plain_label, one_star, label_form, label_reach}
 use Rattle.read_characters.specs.Classes.{class_of, of_class, label_class, digit_class, star_class}
-use Rattle.read_characters.specs.Templates.{star_after}
-use Rattle.read_fields.proofs.Lists.{bytes_end, bytes_next, bytes_start}
+use Rattle.read_characters.specs.Templates.{star_after, body, given, place_after, template_length}
 use Rattle.read_characters.proofs.Classes.{by_class, plain_class, star_class_is}
-use Rattle.read_characters.proofs.Runs.{leading_more, leading_stop, run_passed, left_at}
+use Rattle.read_characters.proofs.Runs.{leading_more, leading_stop, leading_same}
 
 -- ---- the sorts of characters: a plain one, a star, one that stands in no label template
 
@@ -113,11 +112,6 @@ first_out : (f a l m : Bool) → (a && f && l && m) ≡ (f && (a && l && m))
 first_out true a l m = ap (λ (t : Bool). t && l && m) (and-true a)
 first_out false a l m = ap (λ (t : Bool). t && l && m) (and-false a)
 
--- how many characters it has: the first, plain ones, and, where the first is no star, one star or none
-abbrev pub body : List ℕ → ℕ
-body [] = 0
-body (b ∷ bs) = let n = leading plain_label bs in suc (n + star_after (star b) (drop n bs))
-
 body_left : (b : ℕ) (bs : List ℕ)
     → drop (body (b ∷ bs)) (b ∷ bs) ≡ after_star (star b) (drop (leading plain_label bs) bs)
 body_left b bs =
@@ -149,11 +143,6 @@ place_from bs first n =
     let m = n + elim first as (λ f. ℕ) [ zero ↦ one_star (drop n bs) | suc f ↦ 0 ] in
     elim (eqb n 0 || digit (get_or bs 0 0)) as (λ c. ℕ) [ true ↦ 0 | false ↦ m + leading space (drop m bs) ]
 
--- the place n where the first character may be first, else 0
-abbrev pub given : Bool → ℕ → ℕ
-given true n = n
-given false n = 0
-
 no_digit : (n : ℕ) (d : Bool) (x : ℕ)
     → elim (eqb (suc n) 0 || d) as (λ c. ℕ) [ true ↦ 0 | false ↦ x ] ≡ given (not d) x
 no_digit n true x = is_true (eqb (suc n) 0 || true) 0 x (rw eqb-suc-zero)
@@ -182,53 +171,72 @@ place_split b bs =
           ap₂ (place_from (b ∷ bs)) first m ∙ rw e
     ]
 
--- ---- at the places of a field
+-- ---- a star in front of a list
 
--- after a first character that is a star no other is taken
-pub star_first : (first p : ℕ) (xs : List ℕ) → first ≡ star_class → p ≡ p + star_after (eqb first star_class) xs
-star_first first p xs h = rw (eq-eqb first star_class h) (sym (add-zero p))
+pub star_there : (xs : List ℕ) → 1 ≤ length xs → class_of (get_or xs 0 0) ≡ star_class → one_star xs ≡ 1
+star_there [] some e = absurd (omega arith)
+star_there (b ∷ bs) some e = rw (star_class_is b, e, one_star)
 
--- the first character is none; what is left stands from p to e
-module _ (s : List ℕ) (p e first : ℕ) (n : first ≡ star_class → ⊥) where
-  -- nothing
-  pub nothing_left : e ≤ p → p ≡ p + star_after (eqb first star_class) (bytes_at s p (e - p))
-  nothing_left h = rw (ne_eqb first star_class n, bytes_end s p e h) (sym (add-zero p))
+pub none_there : (xs : List ℕ) → (class_of (get_or xs 0 0) ≡ star_class → ⊥) → one_star xs ≡ 0
+none_there [] n = refl
+none_there (b ∷ bs) n = rw (star_class_is b, ne_eqb (class_of b) star_class n, one_star)
 
-  module _ (h : p < e) (l : e ≤ length s) where
-    -- no star in front
-    pub no_star_left : star (get_or s p 0) ≡ false → p ≡ p + star_after (eqb first star_class) (bytes_at s p (e - p))
-    no_star_left t = rw (ne_eqb first star_class n, bytes_next s p e h l, t, one_star) (sym (add-zero p))
+-- ---- the template in front of a list, by its length
 
-    -- a star in front
-    pub star_left : star (get_or s p 0) ≡ true → p + 1 ≡ p + star_after (eqb first star_class) (bytes_at s p (e - p))
-    star_left t = rw (ne_eqb first star_class n, bytes_next s p e h l, t, one_star)
+-- none, since the first may not be first
+pub length_none : (xs : List ℕ) → (in_label (get_or xs 0 0) && not (digit (get_or xs 0 0))) ≡ false → template_length xs ≡ 0
+unfolding template_length
+length_none [] t = refl
+length_none (b ∷ bs) t = rw t
 
--- the label template in the 64 bytes at i
-module _ (s : List ℕ) (i : ℕ) (l : i + 64 ≤ length s) where
-  -- the first and the others
-  apart : bytes_at s i (i + 64 - i) ≡ get_or s i 0 ∷ bytes_at s (i + 1) (i + 64 - (i + 1))
-  apart = bytes_next s i (i + 64) (omega arith) l
+-- the first, those after it up to n, and a star there where the first is none
+pub length_some : (xs : List ℕ) → 1 ≤ length xs → (in_label (get_or xs 0 0) && not (digit (get_or xs 0 0))) ≡ true
+    → {first n : ℕ} → first ≡ class_of (get_or xs 0 0) → n ≡ 1 + leading (of_class label_class digit_class) (drop 1 xs)
+    → template_length xs ≡ n + star_after (eqb first star_class) (drop n xs)
+unfolding template_length
+length_some [] some t class run = absurd (omega arith)
+length_some (b ∷ bs) some t {first} {n} class run =
+    let r : n ≡ suc (leading plain_label bs)
+    = omega (arith, run, leading_same plain_label (of_class label_class digit_class) plain_class bs) in
+    rw (t, class, ← star_class_is b, r) (sym (suc-add (leading plain_label bs) _))
 
-  whole : bytes_at s i 64 ≡ get_or s i 0 ∷ bytes_at s (i + 1) (i + 64 - (i + 1))
-  whole = sym (bytes_start s i 64) ∙ apart
+form_of : (c : Bool) (n : ℕ) (xs : List ℕ)
+    → (c && every space (drop (suc n) xs)) ≡ (not (eqb (given c (suc n)) 0) && every space (drop (given c (suc n)) xs))
+form_of true n xs = rw eqb-suc-zero
+form_of false n xs = refl
 
-  pub label_told : let b = get_or s i 0 in let bs = bytes_at s i (i + 64 - i) in
-      label_form (bytes_at s i 64) ≡ ((in_label b && not (digit b)) && every space (drop (body bs) bs))
-  label_told = rw (apart, whole) (label_split (get_or s i 0) (bytes_at s (i + 1) (i + 64 - (i + 1))))
+-- it has the form where there is one and spaces follow
+label_told : (xs : List ℕ) → label_form xs ≡ (not (eqb (template_length xs) 0) && every space (drop (template_length xs) xs))
+unfolding template_length label_form
+label_told [] = refl
+label_told (b ∷ bs) =
+    label_split b bs
+    ∙ form_of (in_label b && not (digit b)) (leading plain_label bs + star_after (star b) (drop (leading plain_label bs) bs)) (b ∷ bs)
 
-  pub place_told : let b = get_or s i 0 in let bs = bytes_at s i (i + 64 - i) in
-      label_reach (bytes_at s i 64) ≡ given (in_label b && not (digit b)) (body bs + leading space (drop (body bs) bs))
-  place_told = rw (apart, whole) (place_split (get_or s i 0) (bytes_at s (i + 1) (i + 64 - (i + 1))))
+module _ (xs : List ℕ) {n : ℕ} (e : n ≡ template_length xs) where
+  pub label_none : n ≡ 0 → label_form xs ≡ false
+  label_none z = label_told xs ∙ rw (← e, eq-eqb n 0 z)
 
-  -- its characters end at q: the first, of this class, plain ones up to p, then a star where one may stand
-  pub label_end : {first p q : ℕ} → first ≡ class_of (get_or s i 0)
-      → p ≡ (i + 1) + leading (of_class label_class digit_class) (bytes_at s (i + 1) (i + 64 - (i + 1))) → p ≤ i + 64
-      → q ≡ p + star_after (eqb first star_class) (bytes_at s p (i + 64 - p)) → q ≡ i + body (bytes_at s i (i + 64 - i))
-  label_end {first} {p} {q} class run w taken =
-      let b = get_or s i 0 in
-      let bs = bytes_at s (i + 1) (i + 64 - (i + 1)) in
-      let r : p ≡ (i + 1) + leading plain_label bs = run_passed plain_label label_class digit_class plain_class bs (i + 1) run in
-      let t : q ≡ p + star_after (star b) (drop (leading plain_label bs) bs)
-      = taken ∙ rw (← left_at s (i + 1) (i + 64) (leading plain_label bs) r w l, star_class_is b, class) in
-      let m : body (bytes_at s i (i + 64 - i)) ≡ body (b ∷ bs) = ap body apart in
-      omega arith
+  pub label_some : (n ≡ 0 → ⊥) → label_form xs ≡ every space (drop n xs)
+  label_some z = label_told xs ∙ rw (← e, ne_eqb n 0 z)
+
+-- ---- where a field cannot go on, by the number of its characters
+
+module _ (n : ℕ) (xs : List ℕ) where
+  pub place_none : n ≡ 0 → place_after n xs ≡ 0
+  place_none z = is_true (eqb n 0) 0 (n + leading space (drop n xs)) (eq-eqb n 0 z)
+
+  pub place_some : (n ≡ 0 → ⊥) → place_after n xs ≡ n + leading space (drop n xs)
+  place_some z = is_false (eqb n 0) 0 (n + leading space (drop n xs)) (ne_eqb n 0 z)
+
+place_of : (c : Bool) (n : ℕ) (xs : List ℕ) → given c (suc n + leading space (drop (suc n) xs)) ≡ place_after (given c (suc n)) xs
+place_of true n xs = sym (place_some (suc n) xs (λ e. omega arith))
+place_of false n xs = refl
+
+-- a label template
+pub place_told : (xs : List ℕ) → label_reach xs ≡ place_after (template_length xs) xs
+unfolding template_length label_reach
+place_told [] = refl
+place_told (b ∷ bs) =
+    place_split b bs
+    ∙ place_of (in_label b && not (digit b)) (leading plain_label bs + star_after (star b) (drop (leading plain_label bs) bs)) (b ∷ bs)

@@ -33,5 +33,6 @@ have_marks b (c ∷ cs) = has_marks b c && have_marks (suc b) cs
 unfoldable pub is_page : List ℕ → Bool
 is_page cs = eqb (length cs) 256 && have_marks 0 cs
 
-abbrev pub Page : List ℕ → Type 0
-Page cs = is_page cs ≡ true
+-- the marks are the page's
+abbrev pub IsPage : List ℕ → Type 0
+IsPage cs = is_page cs ≡ true

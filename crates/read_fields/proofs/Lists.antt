@@ -2,16 +2,17 @@
 use mathlib.Core.Path.{◌≡◌, refl, sym, ap, ◌∙◌}
 use mathlib.Core.List.{List, [], ◌∷◌, ◌++◌}
 use Prim.Native.Nat.{ℕ, zero, suc, ◌+◌, ◌-◌, ◌*◌, ◌^◌, ◌<◌, ◌≤◌}
-use native.Mathlib.Nat.{add-zero, mul-one, suc-mul, mul_assoc, add-mul, mul-le-mul_right, pow-succ', le_refl, le_trans, add-sub_cancel_left, sub-eq-zero_of_le}
+use native.Mathlib.Nat.{add-zero, mul-one, suc-mul, mul_assoc, add-mul, mul-le-mul_right, pow-succ', le_refl, le_trans, add-sub_cancel_left}
 use native.Mathlib.Numerals.{add-one}
 use native.Mathlib.Omega.{arith}
 use lib.ListN.{length, get_or, take, drop, length-drop}
 use lib.Seq.{drop-cons, length-take-le, take-add, take-take, drop-drop, drop_at, get_or-take, get_or-drop, take_all}
 use lib.Dec.{eqb}
 use lib.Bits.{bit_or, or_zero_l, or_add_and, and_le_r}
-use mathlib.Core.Bool.{Bool, true, false, ◌&&◌, and_assoc}
+use mathlib.Core.Bool.{Bool, true, false, ◌&&◌, and-true, and_assoc}
 use mathlib.Core.Logic.{◌⊎◌, inl, inr}
 use borrow.Author.Tests.{ne_eqb}
+use Rattle.std.specs.List.{fold}
 use Rattle.format.specs.Bytes.{Bytes, number_from, number, bytes_at, all_zero}
 
 -- a test passes or does not
@@ -20,11 +21,6 @@ yes_or_no true = inl refl
 yes_or_no false = inr refl
 
 -- ---- bytes one by one
-
--- none are left where the end is reached
-pub bytes_end : (s : List ℕ) (p e : ℕ) → e ≤ p → bytes_at s p (e - p) ≡ []
-unfolding bytes_at
-bytes_end s p e h = ap (λ (n : ℕ). take n (drop p s)) (sub-eq-zero_of_le h)
 
 -- the byte at p, and those after it
 pub bytes_next : (s : List ℕ) (p e : ℕ) → p < e → e ≤ length s
@@ -82,9 +78,15 @@ bits_zero (suc a) b =
     ∙ sym (ap (λ (x : Bool). x && eqb b 0) (ne_eqb (suc a) 0 (λ e. omega arith)))
 
 -- one more byte is gathered
-pub zero_next : (a b : ℕ) (bs : List ℕ) → (eqb (bit_or a b) 0 && all_zero bs) ≡ (eqb a 0 && all_zero (b ∷ bs))
+zero_next : (a b : ℕ) (bs : List ℕ) → (eqb (bit_or a b) 0 && all_zero bs) ≡ (eqb a 0 && all_zero (b ∷ bs))
 unfolding all_zero
 zero_next a b bs = rw bits_zero (and_assoc (eqb a 0) (eqb b 0) (all_zero bs))
+
+-- the bits of all bytes are gathered, on those of a
+pub zero_gathered : (bs : List ℕ) (a : ℕ) → eqb (fold bit_or a bs) 0 ≡ (eqb a 0 && all_zero bs)
+unfolding all_zero
+zero_gathered [] a = sym (and-true (eqb a 0))
+zero_gathered (b ∷ bs) a = zero_gathered bs (bit_or a b) ∙ zero_next a b bs
 
 -- ---- the number of a list
 

@@ -7,6 +7,7 @@ use native.Mathlib.Omega.{arith}
 use lib.ListN.{length, get_or, take, drop, length-drop}
 use lib.Seq.{take-suc, get_or-drop}
 use Rattle.format.specs.Bytes.{number_from, number, bytes_at}
+use Rattle.read_fields.proofs.Lists.{number_join}
 
 -- one more byte at the end
 from_last : (bs : List ℕ) (a b : ℕ) → number_from a (bs ++ b ∷ []) ≡ number_from a bs * 256 + b
@@ -49,3 +50,8 @@ number_four s i h =
     number_more s i 3 h₃
     ∙ ap (λ (x : ℕ). x * 256 + get_or s (i + 3) 0)
     (number_more s i 2 h₂ ∙ ap (λ (x : ℕ). x * 256 + get_or s (i + 2) 0) (number_two s i l))
+
+-- eight bytes, as two runs of four
+pub number_eight : (s : List ℕ) (i : ℕ) → i + 8 ≤ length s
+    → number (bytes_at s i 8) ≡ number (bytes_at s i 4) * 4294967296 + number (bytes_at s (i + 4) 4)
+number_eight s i h = number_join s i 4 4 (omega arith)

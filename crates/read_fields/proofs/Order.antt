@@ -1,17 +1,19 @@
 -- The order of two numbers of many bytes, by the first bytes that differ. Assumes nothing.
-use mathlib.Core.Path.{◌≡◌, sym, ap, ◌∙◌}
+use mathlib.Core.Path.{◌≡◌, refl, sym, ap, ◌∙◌}
 use mathlib.Core.Bool.{true, false}
-use mathlib.Core.List.{List, ◌∷◌}
-use mathlib.Core.Logic.{⊎_elim}
+use mathlib.Core.List.{List, [], ◌∷◌}
+use mathlib.Core.Logic.{⊎_elim, inl, inr}
 use Prim.Native.Nat.{ℕ, suc, ◌+◌, ◌-◌, ◌*◌, ◌^◌, ◌<◌, ◌≤◌}
 use native.Mathlib.Nat.{suc-mul, one-mul, zero-mul, mul-le-mul_right, le_of_lt, pos_of_ne-zero}
 use native.Mathlib.Omega.{arith}
-use lib.Dec.{ltb}
-use lib.ListN.{length, get_or, drop, drop_of_length-le, length-drop}
-use lib.Seq.{take_all, drop-cons}
+use lib.Dec.{eqb, ltb}
+use lib.ListN.{length, drop, length-drop}
+use lib.Seq.{take_all}
 use borrow.Author.Tests.{lt-ltb, le-ltb, ltb-true, ltb-false, eqb-true, eqb-false}
+use Rattle.std.specs.Cmp.Lexicographic.{slice_partial_cmp}
+use Rattle.std.specs.Ordering.{is_some_and, is_lt, nat_cmp}
+use Rattle.std.specs.Prelude.{Some}
 use Rattle.format.specs.Bytes.{Bytes, number, bytes_at, all_zero}
-use Rattle.format.proofs.Numbers.{bytes_drop}
 use Rattle.read_fields.proofs.Lists.{yes_or_no, bytes_all, number_first, number_below, number_join, zero_number}
 
 -- ---- two lists of one length
@@ -41,42 +43,24 @@ module _ (xs ys : List ℕ) (l : length xs ≡ length ys) where
       (number_first a ys ∙ ap (λ (k : ℕ). a * 256 ^ k + number ys) (sym l))
       ∙ shift (a * 256 ^ length xs) (number xs) (number ys)
 
--- ---- from place to place
-
--- nothing is left of either
-pub less_done : (a b : List ℕ) (p : ℕ) → length a ≤ p → length b ≤ p → ltb (number (drop p a)) (number (drop p b)) ≡ false
+-- byte by byte, the first that differ decide
+pub slice_order : (xs ys : List ℕ) → length xs ≡ length ys → Bytes xs → Bytes ys
+    → is_some_and is_lt (slice_partial_cmp (λ (x : ℕ) (y : ℕ). Some (nat_cmp x y)) xs ys) ≡ ltb (number xs) (number ys)
 unfolding number
-less_done a b p h k = rw (drop_of_length-le a {i = p} h, drop_of_length-le b {i = p} k)
-
-module _ (a b : List ℕ) (p : ℕ) (l : length a ≡ length b) (h : p < length a) where
-  -- what is left of both begins with the bytes at p
-  next_a : drop p a ≡ get_or a p 0 ∷ drop (suc p) a
-  next_a = drop-cons a p 0 h
-
-  next_b : drop p b ≡ get_or b p 0 ∷ drop (suc p) b
-  next_b = drop-cons b p 0 (omega arith)
-
-  left_same : length (drop (suc p) a) ≡ length (drop (suc p) b)
-  left_same = let m = length-drop (suc p) a in let n = length-drop (suc p) b in omega arith
-
-  -- the byte of a is less
-  pub less_here : Bytes a → get_or a p 0 < get_or b p 0 → ltb (number (drop p a)) (number (drop p b)) ≡ true
-  less_here small d =
-      let g = first_less (drop (suc p) a) (drop (suc p) b) left_same (get_or a p 0) (get_or b p 0) (bytes_drop (suc p) a small) d in
-      rw (next_a, next_b) (lt-ltb _ _ g)
-
-  -- the byte of b is less
-  pub more_here : Bytes b → get_or b p 0 < get_or a p 0 → ltb (number (drop p a)) (number (drop p b)) ≡ false
-  more_here small d =
-      let g = first_less (drop (suc p) b) (drop (suc p) a) (sym left_same) (get_or b p 0) (get_or a p 0) (bytes_drop (suc p) b small) d in
-      rw (next_a, next_b) (le-ltb _ _ (le_of_lt g))
-
-  -- the two are the same
-  pub same_here : get_or a p 0 ≡ get_or b p 0
-      → ltb (number (drop (p + 1) a)) (number (drop (p + 1) b)) ≡ ltb (number (drop p a)) (number (drop p b))
-  same_here d =
-      let e : p + 1 ≡ suc p = omega arith in
-      rw (e, next_a, next_b, d) (sym (first_same (drop (suc p) a) (drop (suc p) b) left_same (get_or b p 0)))
+slice_order [] [] l s t = refl
+slice_order [] (y ∷ ys) l s t = absurd (omega arith)
+slice_order (x ∷ xs) [] l s t = absurd (omega arith)
+slice_order (x ∷ xs) (y ∷ ys) l s t =
+    let m : length xs ≡ length ys = omega arith in
+    elim (yes_or_no (ltb x y)) [
+      | inl less ↦ rw less (sym (lt-ltb _ _ (first_less xs ys m x y s.1 (ltb-true x y less))))
+      | inr not_less ↦ elim (yes_or_no (eqb x y)) [
+        | inl same ↦ rw (not_less, same) (slice_order xs ys m s.1 t.1 ∙ sym (first_same xs ys m x) ∙ ap (λ (k : ℕ). ltb (number (x ∷ xs)) (number (k ∷ ys))) (eqb-true x y same))
+        | inr differ ↦
+            let more : y < x = omega (arith, ltb-false x y not_less, eqb-false x y differ) in
+            rw (not_less, differ) (sym (le-ltb _ _ (le_of_lt (first_less ys xs (sym m) y x t.1 more))))
+      ]
+    ]
 
 -- ---- numbers of two lengths
 

@@ -1,6 +1,6 @@
 -- The size of the number of many bytes: its significant bits by the first byte, its parity by the last. Assumes nothing.
 use mathlib.Core.Path.{◌≡◌, refl, sym, ap, ◌∙◌}
-use mathlib.Core.Bool.{Bool, true, false, ◌&&◌}
+use mathlib.Core.Bool.{Bool, true, ◌&&◌}
 use mathlib.Core.List.{List, [], ◌∷◌}
 use mathlib.Core.Logic.{⊎_elim}
 use Prim.Native.Nat.{ℕ, zero, suc, ◌+◌, ◌-◌, ◌*◌, ◌/◌, ◌%◌, ◌^◌, ◌<◌, ◌≤◌}
@@ -10,7 +10,7 @@ use lib.Arith.{digits_div}
 use lib.Dec.{eqb, leb, ltb}
 use lib.ListN.{length, get_or, drop}
 use lib.Pow.{pow_pos, pow-add, shr-shr}
-use borrow.Author.Tests.{eq-eqb, ne_eqb, eqb-true, eqb-false, le-leb, leb-true, lt-ltb, ltb-true}
+use borrow.Author.Tests.{eqb-true, eqb-false, le-leb, leb-true, lt-ltb, ltb-true}
 use Rattle.format.specs.Bytes.{Bytes, number, bytes_at}
 use Rattle.format.specs.Forms.{odd, significant_bits, modulus_form}
 use Rattle.format.proofs.Finding.{and_split}
@@ -102,23 +102,11 @@ bits_first s small bits h e =
 
 -- the modulus, by its first and its last byte
 module _ (s : List ℕ) (small : Bytes s) (bits : ℕ) (h : 1 ≤ bits) (e : length s ≡ (bits + 7) / 8) where
-  modulus_ends : modulus_form bits s ≡ (eqb (get_or s 0 0 / 2 ^ ((bits - 1) % 8)) 1 && eqb (get_or s (length s - 1) 0 % 2) 1)
+  pub modulus_ends : modulus_form bits s ≡ (eqb (get_or s 0 0 / 2 ^ ((bits - 1) % 8)) 1 && eqb (get_or s (length s - 1) 0 % 2) 1)
   unfolding modulus_form
   modulus_ends =
       ap (λ (x : Bool). x && odd (number s)) (bits_first s small bits h e)
       ∙ ap (λ (x : Bool). eqb (get_or s 0 0 / 2 ^ ((bits - 1) % 8)) 1 && x) (odd_last s (omega arith))
-
-  -- too few bits, or too many
-  pub modulus_not : (get_or s 0 0 / 2 ^ ((bits - 1) % 8) ≡ 1 → ⊥) → modulus_form bits s ≡ false
-  modulus_not k =
-      modulus_ends
-      ∙ ap (λ (x : Bool). x && eqb (get_or s (length s - 1) 0 % 2) 1) (ne_eqb (get_or s 0 0 / 2 ^ ((bits - 1) % 8)) 1 k)
-
-  -- as many as are asked: the last byte decides
-  pub modulus_last : get_or s 0 0 / 2 ^ ((bits - 1) % 8) ≡ 1 → modulus_form bits s ≡ eqb (get_or s (length s - 1) 0 % 2) 1
-  modulus_last k =
-      modulus_ends
-      ∙ ap (λ (x : Bool). x && eqb (get_or s (length s - 1) 0 % 2) 1) (eq-eqb (get_or s 0 0 / 2 ^ ((bits - 1) % 8)) 1 k)
 
   -- its first byte is not 0
   pub modulus_first : modulus_form bits s ≡ true → 1 ≤ get_or s 0 0

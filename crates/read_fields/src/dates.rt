@@ -9,13 +9,7 @@ use crate::{four, two};
 fn leap_year(y: usize) -> bool
     ensures { result ≡ leap_year y }
 {
-    if y % 4 != 0 {
-        return false;
-    }
-    if y % 100 != 0 {
-        return true;
-    }
-    y % 400 == 0
+    y % 4 == 0 && (y % 100 != 0 || y % 400 == 0)
 }
 
 // The days of a month of the Gregorian calendar.
@@ -23,12 +17,8 @@ fn days_in(y: usize, m: u8) -> u8
     ensures { result ≡ days_in y m }
 {
     match m {
-        2 => {
-            if leap_year(y) {
-                return 29;
-            }
-            28
-        }
+        2 if leap_year(y) => 29,
+        2 => 28,
         4 | 6 | 9 | 11 => 30,
         _ => 31,
     }
@@ -42,22 +32,11 @@ pub fn date_exists(s: &[u8], i: usize) -> bool
     let y = two(s, i);
     let m = s[i + 2];
     let d = s[i + 3];
-    if 9999 < y {
-        return false;
-    }
-    if m < 1 {
-        return false;
-    }
-    if 12 < m {
-        return false;
-    }
-    if d < 1 {
-        return false;
-    }
-    d <= days_in(y, m)
+    y <= 9999 && (1..=12).contains(&m) && (1..=days_in(y, m)).contains(&d)
 }
 
 // The date at i is not after the date at j.
+#[tactic(auto, unfolding(format::specs::Forms::in_order))]
 pub fn in_order(s: &[u8], i: usize, j: usize) -> bool
     requires { (i + 4 ≤ length s.now) × (j + 4 ≤ length s.now) }
     ensures { result ≡ in_order (bytes_at s.now i 4) (bytes_at s.now j 4) }

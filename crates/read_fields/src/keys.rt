@@ -1,6 +1,5 @@
 // Internal: lengths of keys, and the numbers of the public key.
-ghost use Rattle.std.specs.Prelude.{◌≡◌, ◌+◌, ◌/◌, ◌≤◌, ltb, length, get_or};
-ghost use Rattle.format.specs.Bytes.{number};
+ghost use Rattle.std.specs.Prelude.{◌≡◌, ◌+◌, ◌/◌, ◌≤◌, length, get_or};
 ghost use Rattle.format.specs.Forms.{key_length, modulus_form, exponent_form};
 
 use crate::all_zero;
@@ -9,10 +8,7 @@ use crate::all_zero;
 pub fn key_length(n: u8) -> bool
     ensures { result ≡ key_length n }
 {
-    match n {
-        8 | 16 | 24 => true,
-        _ => false,
-    }
+    matches!(n, 8 | 16 | 24)
 }
 
 // The bytes, the fewest that hold that many bits, are an odd number of exactly so many significant bits: the first byte has
@@ -21,34 +17,11 @@ pub fn modulus_form(modulus: &[u8], bits: usize) -> bool
     requires { (512 ≤ bits) × (bits ≤ 4096) × (length modulus.now ≡ (bits + 7) / 8) }
     ensures { result ≡ modulus_form bits modulus.now }
 {
-    if modulus[0] >> ((bits - 1) % 8) != 1 {
-        return false;
-    }
-    modulus[modulus.len() - 1] % 2 == 1
+    modulus[0] >> ((bits - 1) % 8) == 1 && modulus[modulus.len() - 1] % 2 == 1
 }
 
-// The number in the bytes a is less than that in as many bytes b: the first bytes that differ decide.
-fn less(a: &[u8], b: &[u8]) -> bool
-    requires { length a.now ≡ length b.now }
-    ensures { result ≡ ltb (number a.now) (number b.now) }
-{
-    let mut p = 0;
-    while p < a.len() {
-        let x = a[p];
-        let y = b[p];
-        if x < y {
-            return true;
-        }
-        if y < x {
-            return false;
-        }
-        p += 1;
-    }
-    false
-}
-
-// The exponent is odd, and less than the modulus, whose first byte is not 0: a shorter exponent is less, and of a longer one
-// what it has in front must be 0.
+// The exponent is odd, and less than the modulus, whose first byte is not 0: a shorter exponent is less, of a longer one what it
+// has in front must be 0, and then the first bytes that differ decide.
 pub fn exponent_form(exponent: &[u8], modulus: &[u8]) -> bool
     requires { (1 ≤ length exponent.now) × (1 ≤ get_or modulus.now 0 0) }
     ensures { result ≡ exponent_form exponent.now modulus.now }
@@ -60,8 +33,5 @@ pub fn exponent_form(exponent: &[u8], modulus: &[u8]) -> bool
         return true;
     }
     let d = exponent.len() - modulus.len();
-    if all_zero(exponent, 0, d) {
-        return less(&exponent[d..], modulus);
-    }
-    false
+    all_zero(exponent, 0, d) && &exponent[d..] < modulus
 }

@@ -8,42 +8,31 @@ pub mod keys; // keys.rt: lengths of keys, the modulus and the exponent of the p
 ghost use Rattle.std.specs.Prelude.{◌≡◌, ◌+◌, ◌<◌, ◌≤◌, length};
 ghost use Rattle.format.specs.Bytes.{number, bytes_at, all_zero};
 
-// A byte as a number as wide as a place.
-pub fn wide(x: u8) -> usize
-    ensures { (result ≡ x) × (result < 256) }
-{
-    x as usize
-}
-
-// A byte as a number of 32 bits.
-pub fn wide32(x: u8) -> u32
-    ensures { (result ≡ x) × (result < 256) }
-{
-    x as u32
-}
-
 // The number in the two bytes at i.
+#[tactic(auto, using(crate::proofs::Numbers::number_two))]
 pub fn two(s: &[u8], i: usize) -> usize
     requires { i + 2 ≤ length s.now }
     ensures { (result ≡ number (bytes_at s.now i 2)) × (result < 65536) }
 {
-    wide(s[i]) * 256 + wide(s[i + 1])
+    usize::from(u16::from_be_bytes([s[i], s[i + 1]]))
 }
 
 // The number in the four bytes at i.
+#[tactic(auto, using(crate::proofs::Numbers::number_four))]
 pub fn four(s: &[u8], i: usize) -> u32
     requires { i + 4 ≤ length s.now }
     ensures { result ≡ number (bytes_at s.now i 4) }
 {
-    wide32(s[i]) * 16777216 + wide32(s[i + 1]) * 65536 + wide32(s[i + 2]) * 256 + wide32(s[i + 3])
+    u32::from_be_bytes([s[i], s[i + 1], s[i + 2], s[i + 3]])
 }
 
 // The number in the eight bytes at i.
+#[tactic(auto, using(crate::proofs::Numbers::number_eight, std::proofs::lemmas::Grind::or_after_shift))]
 pub fn eight(s: &[u8], i: usize) -> u64
     requires { i + 8 ≤ length s.now }
     ensures { result ≡ number (bytes_at s.now i 8) }
 {
-    four(s, i) as u64 * 4294967296 + four(s, i + 4) as u64
+    u64::from(four(s, i)) << 32 | u64::from(four(s, i + 4))
 }
 
 // The n bytes at i are all 0: their bits are gathered, with no branch inside the loop.
@@ -51,12 +40,5 @@ pub fn all_zero(s: &[u8], i: usize, n: usize) -> bool
     requires { i + n ≤ length s.now }
     ensures { result ≡ all_zero (bytes_at s.now i n) }
 {
-    let e = i + n;
-    let mut bits = 0;
-    let mut p = i;
-    while p < e {
-        bits = bits | s[p];
-        p += 1;
-    }
-    bits == 0
+    s[i..i + n].iter().fold(0, |bits, byte| bits | byte) == 0
 }

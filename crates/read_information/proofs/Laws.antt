@@ -1,4 +1,5 @@
 -- Section 14: a turn of the loop over its subsections, and its end.
+use Rattle.std.specs.Prelude.{⊤, Result, Ok, Err}
 use mathlib.Core.Path.{◌≡◌, refl, sym, ap, ap₂, ◌∙◌}
 use mathlib.Core.Bool.{Bool, true, false, not, ◌||◌, or-true, or-false}
 use mathlib.Core.List.{List, [], ◌∷◌, ◌++◌}
@@ -6,20 +7,25 @@ use mathlib.Core.Option.{Option, none, some}
 use Prim.Native.Nat.{ℕ, ◌+◌, ◌-◌, ◌<◌, ◌≤◌}
 use native.Mathlib.Omega.{arith}
 use lib.Dec.{eqb}
-use lib.ListN.{drop}
+use lib.ListN.{length, drop}
 use borrow.Author.Tests.{ne_eqb}
 use Rattle.format.specs.Bytes.{number, bytes_at}
 use Rattle.format.specs.Parts.{Kind, information, protection, dates, token_parameters, same_kind, Part}
-use Rattle.format.specs.Reading.{subsection_kind, found, fault, need, as_answer, stated, part_in, after_subsections, section_rest}
-use Rattle.format.specs.Rules.{mask_covers}
-use Rattle.format.specs.declared.Answer.TheVariants.{Accepted, Refused}
+use Rattle.format.specs.Reading.{subsection, subsection_kind, found, fault, need, as_answer, stated, part_in, after_subsections, section_rest}
+use Rattle.format.specs.Rules.{has, mask_covers}
+use Rattle.format.specs.declared.Refusal.{Refusal}
 use Rattle.format.proofs.Reaching.{mask_none}
 use Rattle.format.proofs.Tests.{then_found, need_passed}
 use Rattle.format.proofs.Turns.{subsections_from, subs_none}
-use Rattle.read_sections.specs.Refusals.{sub_refusal, section_rows}
+use Rattle.read_sections.specs.Refusals.{whether, first_refusal, fixed_head_checks, section_rows}
 use Rattle.read_information.specs.Loops.{InformationRead}
 use Rattle.read_sections.proofs.Heads.{section_rest_is}
-use Rattle.read_sections.proofs.Subs.{GoesOn, loop_room, loop_on, has_last, kind_other, length_last}
+use Rattle.read_sections.proofs.Laws.{fixed_room}
+use Rattle.read_sections.proofs.Subs.{at_start, GoesOn, refused_told, refused_then, refused_same, loop_stops, loop_room, loop_on, has_last, kind_other, length_last}
+
+-- A subsection of m bytes whose head has passed is there.
+pub fixed_there : {u : ⊤} (m n : ℕ) (seen : Bool) (r : List ℕ) (p : ℕ) → n ≤ length r → Ok u ≡ first_refusal p (fixed_head_checks m seen n r) → m ≤ length r
+fixed_there m n seen r p h e = let w = fixed_room p m n seen r e in omega (arith, w)
 
 -- ---- the tags of section 14
 
@@ -43,57 +49,77 @@ kind_two k t e h = go (eqb 0x0002 t) (sym (ap (λ (a : Bool). told_by a (eqb 0x0
 
 -- ---- a turn
 
-module _ {s : List ℕ} {p e : ℕ} {x : Bool} {q n : ℕ} {protected dated : Bool} (w : InformationRead s p e x q n protected dated) (h : q < e)
-    {m t g : ℕ} (f : m ≡ sub_refusal x information w.done (e - q) (drop q s)) (z : m ≡ 0) (l : t ≡ number (bytes_at s (q + 2) 2))
-    (tag : g ≡ number (bytes_at s q 2)) where
-  on : GoesOn s x information w.done q e h t
-  on = loop_on s x information w.done q e h f z l
+-- What is told of the subsection at offset q, whatever stands before it, where the flags say which tags do.
+abbrev Told : Result ⊤ Refusal → List ℕ → ℕ → ℕ → Bool → ℕ → Bool → Bool → Type 0
+Told a r at e x q protected dated =
+    (before : List Part) → has protection before ≡ protected → has dates before ≡ dated
+    → a ≡ whether (subsection x information before (at + q) (e - q) (drop q r))
 
-  -- One subsection more is read, of kind k.
-  turn : {protected' dated' : Bool} (k : Kind) → on.kind ≡ k → protected' ≡ (protected || same_kind protection k) → dated' ≡ (dated || same_kind dates k)
-      → same_kind token_parameters k ≡ false → InformationRead s p e x (q + t) (n + 1) protected' dated'
-  turn k same a b c =
-      let u : Part = part_in on.kind (drop q s) in
-      let r = loop_room s x information w.done q e h f z in
-      let last = length_last w.done u in
-      record {
-        done = w.done ++ u ∷ [];
-        protections = has_last protection w.done u ∙ ap₂ (λ (y z : Bool). y || z) w.protections (ap (same_kind protection) same) ∙ sym a;
-        dateds = has_last dates w.done u ∙ ap₂ (λ (y z : Bool). y || z) w.dateds (ap (same_kind dates) same) ∙ sym b;
-        unmasked = kind_other token_parameters w.done u (ap (same_kind token_parameters) same ∙ c) ∙ w.unmasked;
-        rows = omega (arith, w.rows);
-        few = omega (arith, w.few, r.0);
-        ends = omega (arith, r.1);
-        same = on.same ∙ w.same;
-      }
+module _ {r : List ℕ} {at e : ℕ} {x : Bool} {q n : ℕ} {protected dated : Bool} (w : InformationRead r at e x q n protected dated) (h : q < e)
+    {u : ⊤} (f : Told (Ok u) r at e x q protected dated) where
+  -- Where the subsection at q is accepted it has four bytes and ends within the section.
+  pub room : (4 ≤ number (bytes_at r (q + 2) 2)) × (number (bytes_at r (q + 2) 2) ≤ e - q)
+  room = loop_room r at x information w.done q e h (f w.done w.protections w.dateds)
 
-  -- Its tag is 1, and the one flag is set; or it is 2, and the other.
-  pub turn_one : {protected' dated' : Bool} → g ≡ 0x0001 → protected' ≡ true → dated' ≡ dated → InformationRead s p e x (q + t) (n + 1) protected' dated'
-  turn_one v a b = turn protection (kind_one _ _ on.told (sym tag ∙ v)) (a ∙ sym (or-true protected)) (b ∙ sym (or-false dated)) refl
+  module _ {t g : ℕ} (l : t ≡ number (bytes_at r (q + 2) 2)) (tag : g ≡ number (bytes_at r q 2)) where
+    on : GoesOn r at x information w.done q e h t
+    on = loop_on r at x information w.done q e h (f w.done w.protections w.dateds) l
 
-  pub turn_two : {protected' dated' : Bool} → (g ≡ 0x0001 → ⊥) → protected' ≡ protected → dated' ≡ true → InformationRead s p e x (q + t) (n + 1) protected' dated'
-  turn_two v a b = turn dates (kind_two _ _ on.told (λ y. v (tag ∙ y))) (a ∙ sym (or-false protected)) (b ∙ sym (or-true dated)) refl
+    -- One subsection more is read, of kind k.
+    turn : {protected' dated' : Bool} (k : Kind) → on.kind ≡ k → protected' ≡ (protected || same_kind protection k) → dated' ≡ (dated || same_kind dates k)
+        → same_kind token_parameters k ≡ false → InformationRead r at e x (q + t) (n + 1) protected' dated'
+    turn k same a b c =
+        let v : Part = part_in on.kind (drop q r) in
+        let m = room in
+        let last = length_last w.done v in
+        record {
+          done = w.done ++ v ∷ [];
+          protections = has_last protection w.done v ∙ ap₂ (λ (y z : Bool). y || z) w.protections (ap (same_kind protection) same) ∙ sym a;
+          dateds = has_last dates w.done v ∙ ap₂ (λ (y z : Bool). y || z) w.dateds (ap (same_kind dates) same) ∙ sym b;
+          unmasked = kind_other token_parameters w.done v (ap (same_kind token_parameters) same ∙ c) ∙ w.unmasked;
+          rows = omega (arith, w.rows);
+          few = omega (arith, w.few, m.0);
+          ends = omega (arith, m.1);
+          same = on.same ∙ w.same;
+        }
+
+    -- Its tag is 1, and the one flag is set; or it is 2, and the other.
+    pub turn_one : {protected' dated' : Bool} → g ≡ 0x0001 → protected' ≡ true → dated' ≡ dated → InformationRead r at e x (q + t) (n + 1) protected' dated'
+    turn_one v a b = turn protection (kind_one _ _ on.told (sym tag ∙ v)) (a ∙ sym (or-true protected)) (b ∙ sym (or-false dated)) refl
+
+    pub turn_two : {protected' dated' : Bool} → (g ≡ 0x0001 → ⊥) → protected' ≡ protected → dated' ≡ true → InformationRead r at e x (q + t) (n + 1) protected' dated'
+    turn_two v a b = turn dates (kind_two _ _ on.told (λ y. v (tag ∙ y))) (a ∙ sym (or-false protected)) (b ∙ sym (or-true dated)) refl
 
 -- ---- the whole section
 
-module _ {s : List ℕ} {p e : ℕ} {x : Bool} {q n : ℕ} {protected dated : Bool} (full : Bool) (w : InformationRead s p e x q n protected dated)
-    (h : e ≤ q) (k : p + 10 ≤ e) (l : e ≡ p + stated (drop p s)) where
+-- Where the subsection at q is refused, the section is, with the same refusal.
+pub turn_stops : {r : List ℕ} {at e : ℕ} {x : Bool} {q n : ℕ} {protected dated : Bool} {v : Refusal} (full : Bool)
+    (w : InformationRead r at e x q n protected dated) → q < e → Told (Err v) r at e x q protected dated → e ≡ stated r
+    → Err v ≡ as_answer section_rows (section_rest full x information at r)
+turn_stops {r} {at} {e} {x} {q} full w h f l =
+    refused_told section_rows
+    (refused_same (section_rest_is full x information r at e l)
+    (refused_then _ (refused_same (sym w.same) (loop_stops r at x information w.done q e h (f w.done w.protections w.dateds)))))
+
+module _ {r : List ℕ} {at e : ℕ} {x : Bool} {q n : ℕ} {protected dated : Bool} (full : Bool) (w : InformationRead r at e x q n protected dated)
+    (h : e ≤ q) (l : e ≡ stated r) where
   -- What the loop has read when it ends is all of the section, whose 0001 is required.
-  loop_end : section_rest full x information p (drop p s)
-      ≡ need (not full || protected) (fault 20 p p) (found (record { head = part_in information (drop p s); subs = w.done }))
+  loop_end : section_rest full x information at r ≡ need (not full || protected) (fault 20 at at) (found (record { head = part_in information r; subs = w.done }))
   unfolding after_subsections
   loop_end =
       let zero : e - q ≡ 0 = omega arith in
-      section_rest_is full x information s p e k l
-      ∙ then_found _ (sym w.same ∙ ap (λ (a : ℕ). subsections_from x information w.done q a (drop q s)) zero ∙ subs_none x information w.done q (drop q s))
+      section_rest_is full x information r at e l
+      ∙ then_found _
+      (sym w.same ∙ ap (λ (a : ℕ). subsections_from x information w.done (at + q) a (drop q r)) zero ∙ subs_none x information w.done (at + q) (drop q r))
       ∙ need_passed (mask_covers w.done) (fault 18 _ _) _ (mask_none w.done w.unmasked)
-      ∙ ap (λ (b : Bool). need (not full || b) (fault 20 p p) (found (record { head = part_in information (drop p s); subs = w.done }))) w.protections
+      ∙ ap (λ (b : Bool). need (not full || b) (fault 20 at at) (found (record { head = part_in information r; subs = w.done }))) w.protections
 
   -- The section is accepted with its rows, or refused with 20.
-  pub ends_there : (not full || protected) ≡ true → Accepted n ≡ as_answer section_rows (section_rest full x information p (drop p s))
+  pub ends_there : (not full || protected) ≡ true → Ok n ≡ as_answer section_rows (section_rest full x information at r)
   unfolding as_answer need
-  ends_there b = ap Accepted w.rows ∙ sym (ap (as_answer section_rows) loop_end ∙ rw b)
+  ends_there b = ap (λ (n : ℕ). Ok n) w.rows ∙ sym (ap (as_answer section_rows) loop_end ∙ rw b)
 
-  pub ends_missing : (not full || protected) ≡ false → Refused 20 p ≡ as_answer section_rows (section_rest full x information p (drop p s))
+  pub ends_missing : {v : Refusal} → v ≡ record { number = 20; place = at + 0 } → (not full || protected) ≡ false
+      → Err v ≡ as_answer section_rows (section_rest full x information at r)
   unfolding as_answer need
-  ends_missing b = sym (ap (as_answer section_rows) loop_end ∙ rw b)
+  ends_missing a b = ap (λ (v : Refusal). Err v) (at_start a) ∙ sym (ap (as_answer section_rows) loop_end ∙ rw b)

@@ -4,14 +4,14 @@ use Rattle.format.specs.Parts.{information, protection, dates, token_parameters,
 use Rattle.format.specs.Rules.{has, of_kind}
 use Rattle.format.proofs.Turns.{subsections_from}
 
--- Of the section 14 at p, which ends at e, the subsections up to q are read: n rows with the section's own, and the flags
--- say which tags are among them. What is read from here is what is read from the first one on.
-pub record InformationRead (s : List ℕ) (p e : ℕ) (x : Bool) (q n : ℕ) (protected dated : Bool) : Type 0 where
+-- Of the section 14 with the bytes r, at a place and of length e, the subsections up to offset q are read: n rows with the section's
+-- own, and the flags say which tags are among them. What is read from here is what is read from the first one on.
+pub record InformationRead (r : List ℕ) (at e : ℕ) (x : Bool) (q n : ℕ) (protected dated : Bool) : Type 0 where
   pub done : List Part
   pub protections : has protection done ≡ protected
   pub dateds : has dates done ≡ dated
   pub unmasked : of_kind token_parameters done ≡ []
   pub rows : n ≡ suc (length done)
-  pub few : n + (p + 9) ≤ q
+  pub few : n + 9 ≤ q
   pub ends : q ≤ e
-  pub same : subsections_from x information done q (e - q) (drop q s) ≡ subsections_from x information [] (p + 10) (e - (p + 10)) (drop (p + 10) s)
+  pub same : subsections_from x information done (at + q) (e - q) (drop q r) ≡ subsections_from x information [] (at + 10) (e - 10) (drop 10 r)

@@ -17,7 +17,7 @@ use Rattle.format.specs.declared.Row.{Row}
 use Rattle.format.proofs.Tests.{found_inj}
 use Rattle.format.proofs.Finding.{and_split}
 use Rattle.read_rows.specs.Places.{own_length, rules_with, rule_in, Left, Begins}
-use Rattle.read_rows.specs.Filling.{Fillable, IsFilled, Rest, Filling, standing, InSection, bare_rule}
+use Rattle.read_rows.specs.Filling.{Fillable, IsFilled, Rest, Filling, standing, end_in, InSection, bare_rule}
 use Rattle.read_rows.proofs.Places.{own_twenty, in_rule, starts, left_length, there, four, section_row, sub_row, section_after, sub_after}
 
 -- ---- a turn
@@ -102,41 +102,42 @@ module _ {s t₀ t : List ℕ} {b : Before} {e i : ℕ} where
 
 -- ---- the subsections of a section
 
-module _ {s t₀ t : List ℕ} {n p e kind owner rule rules i : ℕ} where
+module _ {s t₀ t : List ℕ} {n p : ℕ} {r : Row} {rules i : ℕ} where
   -- A part stands before the section's end.
-  sub_next : InSection s t₀ t n p e kind owner rule rules i → p < e → Next s t₀ t (standing p n owner rules) e i
+  sub_next : InSection s t₀ t n p r rules i → p < end_in r → Next s t₀ t (standing p n r.owner rules) (end_in r) i
   sub_next w h = go w.filling.parts w.filling.left w.filling.rest
     where
-      go : (ps : List Part) → Left s (standing p n owner rules) e i ps → Rest s t₀ t (standing p n owner rules) ps → Next s t₀ t (standing p n owner rules) e i
-      go [] l r = absurd (let x = l.ends in omega arith)
-      go (q ∷ qs) l r = next (record { parts = q ∷ qs; left = l; rest = r }) (let a = there q qs l in omega (arith, a.ends, a.least))
+      go : (ps : List Part) → Left s (standing p n r.owner rules) (end_in r) i ps → Rest s t₀ t (standing p n r.owner rules) ps
+          → Next s t₀ t (standing p n r.owner rules) (end_in r) i
+      go [] l x = absurd (let y = l.ends in omega arith)
+      go (q ∷ qs) l x = next (record { parts = q ∷ qs; left = l; rest = x }) (let a = there q qs l in omega (arith, a.ends, a.least))
 
   -- What of it is in the token, the numbers before it, and the room for its row.
-  pub sub_inside : InSection s t₀ t n p e kind owner rule rules i → p < e
-      → (p + 4 ≤ length s) × (length s ≤ longest) × (n ≤ p) × (kind < 16777216) × (5 * n + 5 ≤ length t)
+  pub sub_inside : InSection s t₀ t n p r rules i → p < end_in r
+      → (p + 4 ≤ length s) × (length s ≤ longest) × (n ≤ p) × (r.kind < 16777216) × (5 * n + 5 ≤ length t)
   sub_inside w h =
       let x = sub_next w h in
       let l = x.here.left in
       (four x.here, l.short, l.few, omega (arith, w.kinds, l.byte), x.row)
 
   -- Its row is stored.
-  pub sub_turn : {u : List ℕ} → InSection s t₀ t n p e kind owner rule rules i → p < e → {l g : ℕ}
-      → l ≡ number (bytes_at s (p + 2) 2) → g ≡ number (bytes_at s p 2) → u ≡ sets t (5 * n) ((kind + g) ∷ p ∷ l ∷ owner ∷ rule ∷ [])
-      → (4 ≤ l) × InSection s t₀ u (n + 1) (p + l) e kind owner rule rules i × (length u ≡ length t)
+  pub sub_turn : {u : List ℕ} → InSection s t₀ t n p r rules i → p < end_in r → {l g : ℕ} → l ≡ number (bytes_at s (p + 2) 2) → g ≡ number (bytes_at s p 2)
+      → u ≡ sets t (5 * n) (row_numbers (record r { kind = r.kind + g; offset = p; length = l }))
+      → (4 ≤ l) × InSection s t₀ u (n + 1) (p + l) r rules i × (length u ≡ length t)
   sub_turn {u} w h {l} {g} el eg eu =
       let f = sub_on (sub_next w h) (λ z. omega arith) el eg w.number
-      (eu ∙ ap (λ (k : ℕ). sets t (5 * n) ((k + g) ∷ p ∷ l ∷ owner ∷ rule ∷ [])) w.kinds) in (
+      (eu ∙ ap (λ (k : ℕ). sets t (5 * n) ((k + g) ∷ p ∷ l ∷ r.owner ∷ r.rule ∷ [])) w.kinds) in (
         f.0,
         record { filling = f.1; kinds = w.kinds; number = w.number },
-        ap length eu ∙ length-sets t (5 * n) ((kind + g) ∷ p ∷ l ∷ owner ∷ rule ∷ []),
+        ap length eu ∙ length-sets t (5 * n) ((r.kind + g) ∷ p ∷ l ∷ r.owner ∷ r.rule ∷ []),
       )
 
   -- At the section's end no more of them are left.
-  pub subs_end : InSection s t₀ t n p e kind owner rule rules i → e ≤ p → Filling s t₀ t (standing e n owner rules) e i
+  pub subs_end : InSection s t₀ t n p r rules i → end_in r ≤ p → Filling s t₀ t (standing (end_in r) n r.owner rules) (end_in r) i
   subs_end w h =
       let x = w.filling.left.ends in
-      let q : p ≡ e = omega arith in
-      subst (λ (d : ℕ). Filling s t₀ t (standing d n owner rules) e i) q w.filling
+      let q : p ≡ end_in r = omega arith in
+      subst (λ (d : ℕ). Filling s t₀ t (standing d n r.owner rules) (end_in r) i) q w.filling
 
 -- ---- a rule without subsections
 

@@ -6,6 +6,7 @@ use Rattle.format.specs.Parts.{Part}
 use Rattle.format.specs.Rules.{Section}
 use Rattle.format.specs.Reading.{found, reading, parts_of, row_count}
 use Rattle.format.specs.Table.{Before, placed, rows, columns, table_of}
+use Rattle.format.specs.declared.Row.{Row}
 use Rattle.read_rows.specs.Places.{rule_in, Left}
 
 -- the token is accepted and its rows have room
@@ -43,24 +44,27 @@ pub record Sections (s t₀ t : List ℕ) (p rules n : ℕ) : Type 0 where
   pub id : ℕ
   pub filling : Filling s t₀ t (standing p n owner rules) p id
 
--- the rows before a subsection at p are stored, n of them; its section has the id i, ends at e, is in row `owner` and has the
--- number `rule`
-pub record InSection (s t₀ t : List ℕ) (n p e kind owner rule rules i : ℕ) : Type 0 where
-  pub filling : Filling s t₀ t (standing p n owner rules) e i
-  pub kinds : kind ≡ i * 65536
-  pub number : rule ≡ rule_in i rules
+-- where the section in this row ends
+abbrev pub end_in : Row → ℕ
+end_in r = r.offset + r.length
+
+-- the rows before a subsection at p are stored, n of them; its section is in this row, has the id i, and the rules up to it are given
+pub record InSection (s t₀ t : List ℕ) (n p : ℕ) (r : Row) (rules i : ℕ) : Type 0 where
+  pub filling : Filling s t₀ t (standing p n r.owner rules) (end_in r) i
+  pub kinds : r.kind ≡ i * 65536
+  pub number : r.rule ≡ rule_in i rules
 
 -- this is so for some table at first, some id and some rules
-pub record Subsections (s t : List ℕ) (n p e kind owner rule : ℕ) : Type 0 where
+pub record Subsections (s t : List ℕ) (n p : ℕ) (r : Row) : Type 0 where
   pub first : List ℕ
   pub rules : ℕ
   pub id : ℕ
-  pub within : InSection s first t n p e kind owner rule rules id
+  pub within : InSection s first t n p r rules id
 
--- the rows of the subsections up to e are stored too, and there are r
-abbrev pub SubsectionsFilled : List ℕ → List ℕ → List ℕ → ℕ → ℕ → ℕ → ℕ → ℕ → ℕ → ℕ → Type 0
-SubsectionsFilled s t u n p e kind owner rule r =
-    (t₀ : List ℕ) (rules i : ℕ) → InSection s t₀ t n p e kind owner rule rules i → Filling s t₀ u (standing e r owner rules) e i
+-- the rows of the subsections from p to the section's end are stored too, and there are n
+abbrev pub SubsectionsFilled : List ℕ → List ℕ → List ℕ → ℕ → Row → ℕ → Type 0
+SubsectionsFilled s t u p r n =
+    (t₀ : List ℕ) (rules i : ℕ) → InSection s t₀ t (r.owner + 1) p r rules i → Filling s t₀ u (standing (end_in r) n r.owner rules) (end_in r) i
 
 -- a rule that states only its own fields
 unfoldable pub bare_rule : ℕ → ℕ → Bool

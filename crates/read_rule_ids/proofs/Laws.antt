@@ -110,7 +110,7 @@ module _ (l : List ℕ) (k : ℕ) where
       (order m i))
 
   -- It is put there.
-  fresh : {i : ℕ} → 0 < k → Room l → Looked l k i → get_or l i 0 ≡ 0 → Put l k false (set l i k)
+  pub fresh : {i : ℕ} → 0 < k → Room l → Looked l k i → get_or l i 0 ≡ 0 → Put l k false (set l i k)
   fresh {i} h r s z =
       let inside : i < length l = omega (arith, s.bound, r.kept.sized) in
       let here : get_or (set l i k) i 0 ≡ k = get_or-set_same l i k 0 inside in
@@ -149,7 +149,7 @@ module _ (l : List ℕ) (k : ℕ) where
       }
 
   -- Where k stands, the set stays.
-  seen : {i : ℕ} → Room l → Looked l k i → get_or l i 0 ≡ k → Put l k true l
+  pub seen : {i : ℕ} → Room l → Looked l k i → get_or l i 0 ≡ k → Put l k true l
   seen {i} r s z =
       let inside : i < length l = omega (arith, s.bound, r.kept.sized) in
       record {
@@ -161,14 +161,6 @@ module _ (l : List ℕ) (k : ℕ) where
             (λ d. rw (ne_eqb k x d))
             (same_or k x);
       }
-
-  -- The same, where the list is still that of the start.
-  pub fresh_at : {l₀ : List ℕ} {i : ℕ} → l ≡ l₀ → 0 < k → Room l → Looked l k i → get_or l i 0 ≡ 0 → Put l₀ k false (set l i k)
-  fresh_at {i = i} e h r s z = subst (λ (x : List ℕ). Put x k false (set l i k)) e (fresh h r s z)
-
-  -- The same where k stands.
-  pub seen_at : {l₀ : List ℕ} {i : ℕ} → l ≡ l₀ → Room l → Looked l k i → get_or l i 0 ≡ k → Put l₀ k true l
-  seen_at e r s z = subst (λ (x : List ℕ). Put x k true l) e (seen r s z)
 
 -- ---- the empty set
 

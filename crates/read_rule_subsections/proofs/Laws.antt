@@ -1,35 +1,33 @@
 -- Laws of the fields of a rule's subsections in the shapes that the functions ask. Assumes nothing.
-use mathlib.Core.Path.{◌≡◌, sym, ap, ap₂, ◌∙◌}
+use Rattle.std.specs.Prelude.{⊤, Ok}
+use mathlib.Core.Path.{◌≡◌, sym, ap₂, ◌∙◌}
 use mathlib.Core.Bool.{Bool}
 use mathlib.Core.List.{List}
 use Prim.Native.Nat.{ℕ, ◌+◌, ◌<◌, ◌≤◌}
 use native.Mathlib.Omega.{arith}
-use lib.ListN.{length, get_or, drop, length-drop}
+use lib.ListN.{length, get_or}
 use Rattle.format.specs.Bytes.{number, bytes_at}
 use Rattle.format.specs.Reading.{stated}
 use Rattle.format.proofs.Slots.{length_at}
 use Rattle.read_sections.specs.Refusals.{first_refusal, sub_head_checks}
-use Rattle.read_sections.proofs.Laws.{at_drop, byte_number, room_for}
+use Rattle.read_sections.proofs.Laws.{byte_number, room_for}
 
 -- A subsection whose head has passed, with the least length m: all that it states is there.
-pub record There (m : ℕ) (s : List ℕ) (q : ℕ) : Type 0 where
-  pub least : m ≤ stated (drop q s)
-  pub within : q + stated (drop q s) ≤ length s
+pub record There (m : ℕ) (s : List ℕ) : Type 0 where
+  pub least : m ≤ stated s
+  pub within : stated s ≤ length s
 
-pub head_there : {h : ℕ} (m n : ℕ) (seen : Bool) (s : List ℕ) (q : ℕ) → q + n ≤ length s → h ≡ first_refusal (sub_head_checks m seen n (drop q s)) → h ≡ 0 → There m s q
-head_there m n seen s q k e z = let r = room_for m n seen (drop q s) e z in record { least = r.0; within = omega (arith, r.1) }
+pub head_there : {u : ⊤} (m n : ℕ) (seen : Bool) (s : List ℕ) (p : ℕ) → n ≤ length s → Ok u ≡ first_refusal p (sub_head_checks m seen n s) → There m s
+head_there m n seen s p k e = let r = room_for p m n seen s e in record { least = r.0; within = omega (arith, r.1) }
 
--- One of its bytes, at an offset that a count may move: the code's place i is the definition's offset o after q.
-pub byte_behind : {m q v : ℕ} {s : List ℕ} → There m s q → (o i : ℕ) → o < stated (drop q s) → i ≡ q + o → v ≡ get_or s i 0 → v ≡ number (bytes_at (drop q s) o 1)
-byte_behind {q = q} {s = s} r o i h e f =
-    f ∙ byte_number s i (omega (arith, r.within)) ∙ ap (λ (k : ℕ). number (bytes_at s k 1)) e ∙ sym (ap number (at_drop s q o 1))
+-- One of its bytes.
+pub byte_in : {m v : ℕ} {s : List ℕ} → There m s → (o : ℕ) → o < stated s → v ≡ get_or s o 0 → v ≡ number (bytes_at s o 1)
+byte_in {s = s} r o h f = f ∙ byte_number s o (omega (arith, r.within))
 
--- Bytes after a place that are there are as many as are asked.
-pub length_behind : (s : List ℕ) (q o : ℕ) {n k : ℕ} → n ≡ k → q + (o + n) ≤ length s → length (bytes_at (drop q s) o k) ≡ n
-length_behind s q o {k = k} e h = let l = length-drop q s in length_at (drop q s) o k (omega arith) ∙ sym e
+-- Bytes that are there are as many as are asked.
+pub length_in : (s : List ℕ) (o : ℕ) {n k : ℕ} → n ≡ k → o + n ≤ length s → length (bytes_at s o k) ≡ n
+length_in s o {k = k} e h = length_at s o k (omega arith) ∙ sym e
 
--- The label template of a 0005, with z bytes after two masks: the code adds the masks' m bytes to the place, the definition
--- k to the offset.
-pub label_at : (s : List ℕ) (q : ℕ) {m k z : ℕ} → m ≡ k → z ≡ 64 → bytes_at (drop q s) (9 + k + k + 1) z ≡ bytes_at s (q + 10 + m + m) 64
-label_at s q {m} {k} {z} e f =
-    at_drop s q (9 + k + k + 1) z ∙ ap₂ (λ (i n : ℕ). bytes_at s i n) (omega arith) f
+-- The label template of a 0005, with z bytes after two masks: the code adds the masks' m bytes, the definition k.
+pub label_at : (s : List ℕ) {m k z : ℕ} → m ≡ k → z ≡ 64 → bytes_at s (9 + k + k + 1) z ≡ bytes_at s (10 + m + m) 64
+label_at s {m} {k} {z} e f = ap₂ (λ (i n : ℕ). bytes_at s i n) (omega arith) f

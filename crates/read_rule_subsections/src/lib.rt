@@ -1,5 +1,5 @@
 // Internal: the five subsections of a rule, each by itself. Each test is made once and in order. The functions ask that the
-// bytes are there that earlier tests have shown to be there, and that what is lent as the page of characters is it.
+// bytes are there that earlier tests have shown to be there.
 #![tactic(auto)]
 
 pub mod parameters; // parameters.rt: 0003, the export parameters; 0005, the token parameters

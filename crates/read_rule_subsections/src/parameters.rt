@@ -1,37 +1,25 @@
 // Internal: the subsections of a rule that hold parameters: 0003, of the export, and 0005, of the token.
-ghost use Rattle.std.specs.Prelude.{◌≡◌, Bool, List, ℕ, ◌+◌, ◌<◌, ◌≤◌, length, drop};
+ghost use Rattle.std.specs.Prelude.{◌≡◌, Bool, List, ℕ, ◌+◌, ◌<◌, ◌≤◌, length};
 ghost use Rattle.format.specs.Bytes.{number, bytes_at};
 ghost use Rattle.format.specs.Parts.{export_parameters, token_parameters};
-ghost use Rattle.format.specs.Rules.{longest, control_length, variant_length};
+ghost use Rattle.format.specs.Rules.{control_length, variant_length};
 ghost use Rattle.format.specs.Reading.{field_checks, subsection_checks};
-ghost use Rattle.read_characters.specs.Page.{Page};
 ghost use Rattle.read_sections.specs.Refusals.{first_refusal};
 
+use format::Refusal;
+use format::refusals::{CHARACTERS, PARAMETER, RESERVED, SUBSECTION_LENGTH, VALUE};
+use read_characters::page::Page;
 use read_characters::{label_form, label_place};
 use read_fields::keys::key_length;
-use read_fields::{two, wide};
-use read_sections::{SUBSECTION_LENGTH, SUBSECTION_RESERVED, at_offset, subsection_head};
-
-// The refusals of the fields with their offsets (lib.rt of read_sections).
-const FLAGS: u32 = 11 + 256 * 7;
-
-const MINIMUM: u32 = 18 + 256 * 8;
-
-const MAXIMUM: u32 = 18 + 256 * 9;
-
-const VARIANT_LENGTH: u32 = 18 + 256 * 10;
-
-// The length of the masks, by itself and against the minimum of the rule's 0003.
-pub const MASK_LENGTH: u32 = 18 + 256 * 8;
+use read_fields::two;
+use read_sections::part::PartBytes;
+use read_sections::subsection_head;
 
 // A control vector or mask of so many bytes may stand: none, 8 or 16.
 fn control_length(n: usize) -> bool
     ensures { (f : List ℕ) → length f ≡ n → result ≡ control_length f }
 {
-    match n {
-        0 | 8 | 16 => true,
-        _ => false,
-    }
+    matches!(n, 0 | 8 | 16)
 }
 
 // A variant of so many bytes may stand with this maximum: none, or 8 to 255 and no less than the maximum.
@@ -39,111 +27,94 @@ fn variant_length(n: usize, maximum: u8) -> bool
     requires { n < 256 }
     ensures { (f g : List ℕ) → number f ≡ maximum → length g ≡ n → result ≡ variant_length f g }
 {
-    if n == 0 {
-        return true;
-    }
-    if n < 8 {
-        return false;
-    }
-    wide(maximum) <= n
+    n == 0 || 8 <= n && usize::from(maximum) <= n
 }
 
-// The fields of the subsection 0003 at q, with a variant of x bytes and control vectors of c bytes.
-fn export_fields(s: &[u8], q: usize, x: usize, c: usize) -> u32
-    requires { (q + (12 + x + c) ≤ length s.now) × (length s.now ≤ longest) × (x < 256) × (x ≡ number (bytes_at (drop q s.now) 10 1)) × (c ≡ number (bytes_at (drop q s.now) (11 + x) 1)) }
-    ensures { (y : Bool) → result ≡ first_refusal (field_checks y export_parameters (drop q s.now)) }
+// The fields of a subsection 0003, with a variant of x bytes and control vectors of c bytes.
+fn export_fields(part: PartBytes, x: usize, c: usize) -> Result<(), Refusal>
+    requires { (12 + x + c ≤ length part.bytes.now) × (x < 256) × (x ≡ number (bytes_at part.bytes.now 10 1)) × (c ≡ number (bytes_at part.bytes.now (11 + x) 1)) }
+    ensures { (y : Bool) → result ≡ first_refusal part.entry.place (field_checks y export_parameters part.entry.bytes.now) }
 {
-    if two(s, q + 5) != 0 {
-        return SUBSECTION_RESERVED;
+    if two(part.bytes, 5) != 0 {
+        return Err(part.refused(RESERVED, 5));
     }
-    if s[q + 7] != 0 {
-        return FLAGS;
+    if part.bytes[7] != 0 {
+        return Err(part.refused(VALUE, 7));
     }
-    let minimum = s[q + 8];
-    let maximum = s[q + 9];
+    let minimum = part.bytes[8];
+    let maximum = part.bytes[9];
     if !key_length(minimum) {
-        return MINIMUM;
+        return Err(part.refused(PARAMETER, 8));
     }
-    if !key_length(maximum) {
-        return MAXIMUM;
-    }
-    if maximum < minimum {
-        return MAXIMUM;
+    if !key_length(maximum) || maximum < minimum {
+        return Err(part.refused(PARAMETER, 9));
     }
     if !variant_length(x, maximum) {
-        return VARIANT_LENGTH;
+        return Err(part.refused(PARAMETER, 10));
     }
     if !control_length(c) {
-        return at_offset(18, 11 + x);
+        return Err(part.refused(PARAMETER, 11 + x));
     }
-    0
+    Ok(())
 }
 
-// The subsection 0003 at q, where n bytes are left of its section; seen: one stands before.
-pub fn export_at(s: &[u8], q: usize, n: usize, seen: bool) -> u32
-    requires { (4 ≤ n) × (q + n ≤ length s.now) × (length s.now ≤ longest) }
-    ensures { (x : Bool) → result ≡ first_refusal (subsection_checks x export_parameters seen n (drop q s.now)) }
+// A subsection 0003; seen: one stands before.
+pub fn export_at(part: PartBytes, seen: bool) -> Result<(), Refusal>
+    ensures { (x : Bool) → result ≡ first_refusal part.entry.place (subsection_checks x export_parameters seen part.entry.left part.entry.bytes.now) }
 {
-    let h = subsection_head(s, q, n, 12, seen);
-    if h != 0 {
-        return h;
-    }
-    let len = two(s, q + 2);
-    let x = wide(s[q + 10]);
+    subsection_head(part, 12, seen)?;
+    let len = two(part.bytes, 2);
+    let x = usize::from(part.bytes[10]);
     if len < 12 + x {
-        return SUBSECTION_LENGTH;
+        return Err(part.refused(SUBSECTION_LENGTH, 2));
     }
-    let c = wide(s[q + 11 + x]);
+    let c = usize::from(part.bytes[11 + x]);
     if len != 12 + x + c {
-        return SUBSECTION_LENGTH;
+        return Err(part.refused(SUBSECTION_LENGTH, 2));
     }
-    export_fields(s, q, x, c)
+    export_fields(part, x, c)
 }
 
-// The fields of the subsection 0005 at q, with masks of m bytes and a label template of z bytes.
-fn token_fields(s: &[u8], page: &[u8; 256], q: usize, m: usize, z: usize) -> u32
-    requires { (q + (10 + m + m + z) ≤ length s.now) × (length s.now ≤ longest) × (m ≡ number (bytes_at (drop q s.now) 8 1)) × (z ≡ number (bytes_at (drop q s.now) (9 + m + m) 1)) × Page page.now }
-    ensures { (x : Bool) → result ≡ first_refusal (field_checks x token_parameters (drop q s.now)) }
+// The fields of a subsection 0005, with masks of m bytes and a label template of z bytes.
+fn token_fields(part: PartBytes, page: &Page, m: usize, z: usize) -> Result<(), Refusal>
+    requires { (10 + m + m + z ≤ length part.bytes.now) × (m ≡ number (bytes_at part.bytes.now 8 1)) × (z ≡ number (bytes_at part.bytes.now (9 + m + m) 1)) }
+    ensures { (x : Bool) → result ≡ first_refusal part.entry.place (field_checks x token_parameters part.entry.bytes.now) }
 {
-    if two(s, q + 5) != 0 {
-        return SUBSECTION_RESERVED;
+    if two(part.bytes, 5) != 0 {
+        return Err(part.refused(RESERVED, 5));
     }
-    if s[q + 7] != 0 {
-        return FLAGS;
+    if part.bytes[7] != 0 {
+        return Err(part.refused(VALUE, 7));
     }
     if !control_length(m) {
-        return MASK_LENGTH;
+        return Err(part.refused(PARAMETER, 8));
     }
     if z == 0 {
-        return 0;
+        return Ok(());
     }
     if z != 64 {
-        return at_offset(18, 9 + m + m);
+        return Err(part.refused(PARAMETER, 9 + m + m));
     }
-    let label = q + 10 + m + m;
-    if !label_form(s, page, label) {
-        return at_offset(17, label - q + label_place(s, label));
+    let label = 10 + m + m;
+    if !label_form(part.bytes, page, label) {
+        return Err(part.refused(CHARACTERS, label + label_place(part.bytes, label)));
     }
-    0
+    Ok(())
 }
 
-// The subsection 0005 at q, where n bytes are left of its section; seen: one stands before.
-pub fn token_at(s: &[u8], page: &[u8; 256], q: usize, n: usize, seen: bool) -> u32
-    requires { (4 ≤ n) × (q + n ≤ length s.now) × (length s.now ≤ longest) × Page page.now }
-    ensures { (x : Bool) → result ≡ first_refusal (subsection_checks x token_parameters seen n (drop q s.now)) }
+// A subsection 0005; seen: one stands before.
+pub fn token_at(part: PartBytes, page: &Page, seen: bool) -> Result<(), Refusal>
+    ensures { (x : Bool) → result ≡ first_refusal part.entry.place (subsection_checks x token_parameters seen part.entry.left part.entry.bytes.now) }
 {
-    let h = subsection_head(s, q, n, 10, seen);
-    if h != 0 {
-        return h;
-    }
-    let len = two(s, q + 2);
-    let m = wide(s[q + 8]);
+    subsection_head(part, 10, seen)?;
+    let len = two(part.bytes, 2);
+    let m = usize::from(part.bytes[8]);
     if len < 10 + m + m {
-        return SUBSECTION_LENGTH;
+        return Err(part.refused(SUBSECTION_LENGTH, 2));
     }
-    let z = wide(s[q + 9 + m + m]);
+    let z = usize::from(part.bytes[9 + m + m]);
     if len != 10 + m + m + z {
-        return SUBSECTION_LENGTH;
+        return Err(part.refused(SUBSECTION_LENGTH, 2));
     }
-    token_fields(s, page, q, m, z)
+    token_fields(part, page, m, z)
 }

@@ -1,46 +1,38 @@
 // Internal: the subsections of a rule that name other rules, 0002 and 0004, and the transport variant, 0001.
-ghost use Rattle.std.specs.Prelude.{◌≡◌, Bool, ◌+◌, ◌≤◌, length, drop};
+ghost use Rattle.std.specs.Prelude.{◌≡◌, Bool};
 ghost use Rattle.format.specs.Parts.{transport_variant, transport_rule};
-ghost use Rattle.format.specs.Rules.{longest};
 ghost use Rattle.format.specs.Reading.{subsection_checks};
-ghost use Rattle.read_characters.specs.Page.{Page};
 ghost use Rattle.read_sections.specs.Refusals.{first_refusal};
 
+use format::Refusal;
+use format::refusals::{CHARACTERS, RESERVED, SUBSECTION_LENGTH};
+use read_characters::page::Page;
 use read_characters::{rule_id_form, rule_id_place};
-use read_fields::{two, wide};
-use read_sections::{
-    SUBSECTION_LENGTH, SUBSECTION_RESERVED, at_offset, fixed_subsection_head, subsection_head,
-};
+use read_fields::two;
+use read_sections::part::PartBytes;
+use read_sections::{fixed_subsection_head, subsection_head};
 
-// The subsection 0001 at q, where n bytes are left of its section; seen: one stands before.
-pub fn variant_at(s: &[u8], q: usize, n: usize, seen: bool) -> u32
-    requires { (4 ≤ n) × (q + n ≤ length s.now) × (length s.now ≤ longest) }
-    ensures { (x : Bool) → result ≡ first_refusal (subsection_checks x transport_variant seen n (drop q s.now)) }
+// A subsection 0001; seen: one stands before.
+pub fn variant_at(part: PartBytes, seen: bool) -> Result<(), Refusal>
+    ensures { (x : Bool) → result ≡ first_refusal part.entry.place (subsection_checks x transport_variant seen part.entry.left part.entry.bytes.now) }
 {
-    let h = subsection_head(s, q, n, 8, seen);
-    if h != 0 {
-        return h;
+    subsection_head(part, 8, seen)?;
+    if two(part.bytes, 2) != 8 + usize::from(part.bytes[7]) {
+        return Err(part.refused(SUBSECTION_LENGTH, 2));
     }
-    if two(s, q + 2) != 8 + wide(s[q + 7]) {
-        return SUBSECTION_LENGTH;
+    if two(part.bytes, 5) != 0 {
+        return Err(part.refused(RESERVED, 5));
     }
-    if two(s, q + 5) != 0 {
-        return SUBSECTION_RESERVED;
-    }
-    0
+    Ok(())
 }
 
-// The subsection 0002 or 0004 at q, where n bytes are left of its section. Both have the same tests.
-pub fn reference_at(s: &[u8], page: &[u8; 256], q: usize, n: usize, seen: bool) -> u32
-    requires { (4 ≤ n) × (q + n ≤ length s.now) × (length s.now ≤ longest) × Page page.now }
-    ensures { (x : Bool) → result ≡ first_refusal (subsection_checks x transport_rule seen n (drop q s.now)) }
+// A subsection 0002 or 0004. Both have the same tests.
+pub fn reference_at(part: PartBytes, page: &Page, seen: bool) -> Result<(), Refusal>
+    ensures { (x : Bool) → result ≡ first_refusal part.entry.place (subsection_checks x transport_rule seen part.entry.left part.entry.bytes.now) }
 {
-    let h = fixed_subsection_head(s, q, n, 14, seen);
-    if h != 0 {
-        return h;
+    fixed_subsection_head(part, 14, seen)?;
+    if !rule_id_form(part.bytes, page, 6) {
+        return Err(part.refused(CHARACTERS, 6 + rule_id_place(part.bytes, 6)));
     }
-    if !rule_id_form(s, page, q + 6) {
-        return at_offset(17, 6 + rule_id_place(s, q + 6));
-    }
-    0
+    Ok(())
 }

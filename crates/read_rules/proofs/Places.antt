@@ -1,20 +1,19 @@
 -- The parts of a kind in a list with one part more, and their place. Assumes nothing.
+use Rattle.std.specs.Prelude.{Some, None, is_some, unwrap_or}
 use mathlib.Core.Path.{◌≡◌, refl, sym, ap, ap₂, ◌∙◌}
-use mathlib.Core.Bool.{Bool, true, false, not, ◌||◌}
+use mathlib.Core.Bool.{Bool, true, false, ◌||◌}
 use mathlib.Core.List.{List, [], ◌∷◌, ◌++◌}
-use Prim.Native.Nat.{ℕ, zero, suc, ◌+◌, ◌<◌, ◌≤◌}
+use Prim.Native.Nat.{ℕ, ◌+◌, ◌≤◌}
 use native.Mathlib.Nat.{add-zero}
 use native.Mathlib.Omega.{arith}
-use lib.Dec.{eqb}
 use lib.ListN.{length, drop}
-use borrow.Author.Tests.{ne_eqb, eqb-true, not-false}
 use Rattle.format.specs.Parts.{Kind, same_kind, Part, size}
 use Rattle.format.specs.Rules.{has, of_kind}
 use Rattle.format.specs.Reading.{made_length, part_in, place_of}
 use Rattle.format.proofs.Finding.{same_kind_refl}
 use Rattle.format.proofs.Beginnings.{kind_join}
 use Rattle.read_sections.proofs.Subs.{kind_other}
-use Rattle.read_rules.specs.Loops.{standing, or_here, Within, Once}
+use Rattle.read_rules.specs.Loops.{Place, standing, Once}
 
 -- ---- one part more
 
@@ -25,17 +24,17 @@ kind_same k us u e h =
     ∙ ap₂ (λ (l : List Part) (b : Bool). l ++ elim b as (λ y. List Part) [ true ↦ u ∷ [] | false ↦ [] ]) h e
 
 -- the list has a part
-abbrev some : List Part → Bool
-some [] = false
-some (u ∷ us) = true
+abbrev any_part : List Part → Bool
+any_part [] = false
+any_part (u ∷ us) = true
 
 -- A kind stands among parts where there are parts of it.
-has_of : (k : Kind) (us : List Part) → has k us ≡ some (of_kind k us)
+has_of : (k : Kind) (us : List Part) → has k us ≡ any_part (of_kind k us)
 has_of k [] = refl
 has_of k (u ∷ us) = go (same_kind k u.kind) (has_of k us)
   where
-    go : (b : Bool) → has k us ≡ some (of_kind k us)
-        → (b || has k us) ≡ some (elim b as (λ y. List Part) [ true ↦ u ∷ of_kind k us | false ↦ of_kind k us ])
+    go : (b : Bool) → has k us ≡ any_part (of_kind k us)
+        → (b || has k us) ≡ any_part (elim b as (λ y. List Part) [ true ↦ u ∷ of_kind k us | false ↦ of_kind k us ])
     go true ih = refl
     go false ih = ih
 
@@ -57,69 +56,45 @@ place_last k u at (v ∷ us) = go (same_kind k v.kind) (place_last k u (at + siz
 
 -- ---- a kind that stands at most once
 
--- A place is no further than the bytes reach.
-pub place_small : (s : List ℕ) (k : Kind) (i : ℕ) → Within s k i → i ≤ length s
-place_small s k zero h = omega arith
-place_small s k (suc i) h = let b = h (omega arith) in omega arith
+-- Parts of a kind stand at an offset exactly where there is one.
+standing_told : (r : List ℕ) (k : Kind) (offset : Place) → any_part (standing r k offset) ≡ is_some offset
+standing_told r k None = refl
+standing_told r k (Some i) = refl
 
--- Where the place is 0, there is no part.
-pub standing_none : (s : List ℕ) (k : Kind) {i : ℕ} → i ≡ 0 → standing s k i ≡ []
-unfolding standing
-standing_none s k e = rw e
+-- A kind that stands at most once is among the parts exactly where it has an offset.
+pub once_has : {r : List ℕ} {at q : ℕ} {us : List Part} {k : Kind} {offset : Place} → Once r at q us k offset → has k us ≡ is_some offset
+once_has {r} {us = us} {k = k} {offset = offset} o = has_of k us ∙ ap any_part o.parts ∙ standing_told r k offset
 
--- Where the place is not 0, the part there.
-pub standing_one : (s : List ℕ) (k : Kind) (i : ℕ) → 0 < i → standing s k i ≡ part_in k (drop i s) ∷ []
-unfolding standing
-standing_one s k zero h = absurd (omega arith)
-standing_one s k (suc i) h = refl
-
--- The place of a part that stands.
-pub here_one : (i q : ℕ) → 0 < i → or_here i q ≡ i
-unfolding or_here
-here_one zero q h = absurd (omega arith)
-here_one (suc i) q h = refl
-
--- A place above 0 is not 0, as the code tests it.
-not_none : (i : ℕ) → not (eqb (suc i) 0) ≡ true
-not_none i = ap not (ne_eqb (suc i) 0 (λ e. omega arith))
-
--- Parts of a kind stand at a place exactly where it is not 0.
-standing_told : (s : List ℕ) (k : Kind) (i : ℕ) → some (standing s k i) ≡ not (eqb i 0)
-unfolding standing
-standing_told s k zero = refl
-standing_told s k (suc i) = sym (not_none i)
-
--- A kind that stands at most once is among the parts exactly where its place is not 0.
-pub once_has : {s : List ℕ} {first q : ℕ} {us : List Part} {k : Kind} {i : ℕ} → Once s first q us k i → has k us ≡ not (eqb i 0)
-once_has {s} {us = us} {k = k} {i = i} o = has_of k us ∙ ap some o.parts ∙ standing_told s k i
-
--- A place that is 0 before the first part: none stands.
-pub once_none : (s : List ℕ) (first : ℕ) (k : Kind) → Once s first first [] k 0
-unfolding standing or_here
-once_none s first k = record { parts = refl; stands = refl; within = λ h. absurd (omega arith) }
+-- Before the first part none stands.
+pub once_none : (r : List ℕ) (at : ℕ) (k : Kind) → Once r at 20 [] k None
+once_none r at k = record { parts = refl; stands = refl; within = tt }
 
 -- After a part of another kind, the place of this kind or the end.
-other_place : {s : List ℕ} {first q : ℕ} {us : List Part} {k : Kind} (i : ℕ) (u : Part) (t : ℕ) → Once s first q us k i
-    → same_kind k u.kind ≡ false → size u ≡ t → place_of k first (us ++ u ∷ []) ≡ or_here i (q + t)
-unfolding or_here
-other_place {first = first} {us = us} {k = k} zero u t o e l = place_last k u first us ∙ rw (once_has o, e, l, o.stands)
-other_place {first = first} {us = us} {k = k} (suc i) u t o e l = place_last k u first us ∙ rw (once_has o, not_none i, o.stands) (add-zero (suc i))
+other_place : {r : List ℕ} {at q : ℕ} {us : List Part} {k : Kind} (offset : Place) (u : Part) (t : ℕ) → Once r at q us k offset
+    → same_kind k u.kind ≡ false → size u ≡ t → place_of k (at + 20) (us ++ u ∷ []) ≡ at + unwrap_or offset (q + t)
+other_place {at = at} {q = q} {us = us} {k = k} None u t o e l =
+    place_last k u (at + 20) us ∙ rw (once_has o, e, l, o.stands) (let z : at + q + t ≡ at + (q + t) = omega arith in z)
+other_place {at = at} {us = us} {k = k} (Some i) u t o e l = place_last k u (at + 20) us ∙ rw (once_has o, o.stands) (add-zero (at + i))
 
 -- After a part of another kind, this kind stands where it stood.
-pub once_other : {s : List ℕ} {first q : ℕ} {us : List Part} {k : Kind} {i : ℕ} (u : Part) {t : ℕ} → Once s first q us k i
-    → same_kind k u.kind ≡ false → size u ≡ t → Once s first (q + t) (us ++ u ∷ []) k i
-once_other {us = us} {k = k} {i = i} u {t = t} o e l =
-    record { parts = kind_other k us u e ∙ o.parts; stands = other_place i u t o e l; within = o.within }
+pub once_other : {r : List ℕ} {at q : ℕ} {us : List Part} {k : Kind} {offset : Place} (u : Part) {t : ℕ} → Once r at q us k offset
+    → same_kind k u.kind ≡ false → size u ≡ t → Once r at (q + t) (us ++ u ∷ []) k offset
+once_other {us = us} {k = k} {offset = offset} u {t = t} o e l =
+    record { parts = kind_other k us u e ∙ o.parts; stands = other_place offset u t o e l; within = o.within }
+
+-- A kind that is not among the parts has no offset.
+no_place : (offset : Place) → is_some offset ≡ false → offset ≡ None
+no_place None e = refl
+no_place (Some i) e = absurd cc
 
 -- The first part of its kind after the earlier ones.
-pub once_here : {s : List ℕ} {first q : ℕ} {us : List Part} {k : Kind} {i : ℕ} (t : ℕ) → Once s first q us k i → has k us ≡ false
-    → 0 < q → q + made_length k (drop q s) ≤ length s → Once s first (q + t) (us ++ part_in k (drop q s) ∷ []) k q
-unfolding or_here
-once_here {s} {first} {q} {us} {k} {i} t o h pos fits =
-    let u : Part = part_in k (drop q s) in
-    let z : i ≡ 0 = eqb-true i 0 (not-false (eqb i 0) (sym (once_has o) ∙ h)) in
+pub once_here : {r : List ℕ} {at q : ℕ} {us : List Part} {k : Kind} {offset : Place} (t : ℕ) → Once r at q us k offset → has k us ≡ false
+    → q + made_length k (drop q r) ≤ length r → Once r at (q + t) (us ++ part_in k (drop q r) ∷ []) k (Some q)
+once_here {r} {at} {q} {us} {k} {offset} t o h fits =
+    let u : Part = part_in k (drop q r) in
+    let z : offset ≡ None = no_place offset (sym (once_has o) ∙ h) in
     record {
-      parts = kind_same k us u (same_kind_refl k) (o.parts ∙ standing_none s k z) ∙ sym (standing_one s k q pos);
-      stands = place_last k u first us ∙ rw (h, same_kind_refl k, o.stands, z, here_one q (q + t) pos) (add-zero q);
-      within = λ b. fits;
+      parts = kind_same k us u (same_kind_refl k) (o.parts ∙ ap (standing r k) z);
+      stands = place_last k u (at + 20) us ∙ rw (h, same_kind_refl k, o.stands, z) (add-zero (at + q));
+      within = fits;
     }

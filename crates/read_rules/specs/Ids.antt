@@ -1,11 +1,11 @@
 -- Internal: the Rule IDs of the rules that came before, as the numbers in the set that the code keeps, and what a rule's
 -- reading says of them.
-use Rattle.std.specs.Prelude.{◌≡◌, Bool, true, false, ◌&&◌, ◌||◌, List, [], ◌∷◌, ◌++◌, ℕ, ◌+◌, ◌*◌, ◌≤◌, ◌<◌, eqb, length, get_or, drop}
+use Rattle.std.specs.Prelude.{◌≡◌, Bool, true, false, ◌&&◌, ◌||◌, List, [], ◌∷◌, ◌++◌, ℕ, ◌+◌, ◌*◌, ◌≤◌, ◌<◌, eqb, length, get_or}
 use Rattle.format.specs.Bytes.{All, Bytes, number}
 use Rattle.format.specs.Parts.{rule, same_kind}
 use Rattle.format.specs.Rules.{Section}
 use Rattle.format.specs.Reading.{found, stated, section, as_answer}
-use Rattle.format.specs.declared.Answer.{Answer}
+use Rattle.format.specs.Answers.{Answer}
 use Rattle.read_rule_ids.specs.Keys.{among, Below, Kept}
 use Rattle.read_sections.specs.Refusals.{section_rows}
 
@@ -36,7 +36,8 @@ pub record Held (before : List Section) (p : ℕ) (ids : List ℕ) : Type 0 wher
   pub eight : All (λ (s : Section). is_rule s ≡ true → EightBytes (first_field s)) before
   pub holds : (key : ℕ) → 0 < key → among key ids ≡ key_before key before
 
--- The rule at p, with the sections before, is answered by r; where it is found, the set that is left holds its Rule ID too.
-pub record RuleAnswered (full x : Bool) (before : List Section) (s : List ℕ) (p : ℕ) (ids : List ℕ) (r : Answer) : Type 0 where
-  pub same : r ≡ as_answer section_rows (section full x before p (drop p s))
-  pub held : (t : Section) → section full x before p (drop p s) ≡ found t → Held (before ++ t ∷ []) (p + stated (drop p s)) ids
+-- The rule with the bytes r at p, with the sections before, is answered by a; where it is found, the set that is left holds its
+-- Rule ID too.
+pub record RuleAnswered (full x : Bool) (before : List Section) (r : List ℕ) (p : ℕ) (ids : List ℕ) (a : Answer) : Type 0 where
+  pub same : a ≡ as_answer section_rows (section full x before p r)
+  pub held : (t : Section) → section full x before p r ≡ found t → Held (before ++ t ∷ []) (p + stated r) ids

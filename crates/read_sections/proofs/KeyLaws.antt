@@ -6,14 +6,14 @@ use mathlib.Core.Logic.{inl, inr, ⊎_elim}
 use Prim.Native.Nat.{ℕ, ◌+◌, ◌-◌, ◌<◌, ◌≤◌}
 use native.Mathlib.Omega.{arith}
 use lib.Dec.{eqb, leb}
-use lib.ListN.{length, drop}
+use lib.ListN.{length}
 use borrow.Author.Tests.{eq-eqb, ne_eqb, le-leb, lt-leb}
 use Rattle.format.specs.Bytes.{number, bytes_at}
 use Rattle.format.specs.Forms.{between}
 use Rattle.format.specs.Rules.{key_flags}
 use types.Run.{OneOf}
 use Rattle.read_fields.proofs.Lists.{bytes_length}
-use Rattle.read_sections.proofs.Laws.{at_drop, number_at, both_yes, first_not, second_not}
+use Rattle.read_sections.proofs.Laws.{both_yes, first_not, second_not}
 
 -- A number between two bounds, or not: x from 1 to 512, the bits from 512 to 4,096.
 pub between_yes : (lo hi : ℕ) {n : ℕ} → lo ≤ n → n ≤ hi → between lo hi n ≡ true
@@ -41,49 +41,41 @@ flag_not {n} f q out =
 
 -- ---- the fields at their places
 
-module _ (s : List ℕ) (p x y : ℕ) (ex : x ≡ number (bytes_at s (p + 6) 2)) (ey : y ≡ number (bytes_at s (p + 10) 2)) where
+module _ (s : List ℕ) (x y : ℕ) (ex : x ≡ number (bytes_at s 6 2)) (ey : y ≡ number (bytes_at s 10 2)) where
   abbrev X : ℕ
-  X = number (bytes_at (drop p s) 6 2)
+  X = number (bytes_at s 6 2)
 
   abbrev Y : ℕ
-  Y = number (bytes_at (drop p s) 10 2)
+  Y = number (bytes_at s 10 2)
 
-  x_is : x ≡ X
-  x_is = number_at s p 6 2 ex
+  pub exponent_at_is : bytes_at s 12 (12 + x - 12) ≡ bytes_at s 12 X
+  exponent_at_is = let n : 12 + x - 12 ≡ X = omega (arith, ex) in ap (bytes_at s 12) n
 
-  y_is : y ≡ Y
-  y_is = number_at s p 10 2 ey
-
-  pub exponent_at_is : bytes_at s (p + 12) (p + 12 + x - (p + 12)) ≡ bytes_at (drop p s) 12 X
-  exponent_at_is =
-      let n : p + 12 + x - (p + 12) ≡ X = omega (arith, x_is) in
-      ap (bytes_at s (p + 12)) n ∙ sym (at_drop s p 12 X)
-
-  pub modulus_at_is : bytes_at s (p + 12 + x) (p + 12 + x + y - (p + 12 + x)) ≡ bytes_at (drop p s) (12 + X) Y
+  pub modulus_at_is : bytes_at s (12 + x) (12 + x + y - (12 + x)) ≡ bytes_at s (12 + X) Y
   modulus_at_is =
-      let i : p + 12 + x ≡ p + (12 + X) = omega (arith, x_is) in
-      let n : p + 12 + x + y - (p + 12 + x) ≡ Y = omega (arith, y_is) in
-      ap₂ (bytes_at s) i n ∙ sym (at_drop s p (12 + X) Y)
+      let i : 12 + x ≡ 12 + X = omega (arith, ex) in
+      let n : 12 + x + y - (12 + x) ≡ Y = omega (arith, ey) in
+      ap₂ (bytes_at s) i n
 
   -- their lengths are those that are stated
-  pub exponent_length_is : p + 12 + x ≤ length s → X ≡ length (bytes_at s (p + 12) (p + 12 + x - (p + 12)))
-  exponent_length_is h = omega (arith, x_is, bytes_length s (p + 12) (p + 12 + x - (p + 12)) (omega arith))
+  pub exponent_length_is : 12 + x ≤ length s → X ≡ length (bytes_at s 12 (12 + x - 12))
+  exponent_length_is h = omega (arith, ex, bytes_length s 12 (12 + x - 12) (omega arith))
 
-  pub modulus_length : p + 12 + x + y ≤ length s → Y ≡ length (bytes_at s (p + 12 + x) (p + 12 + x + y - (p + 12 + x)))
-  modulus_length h = omega (arith, y_is, bytes_length s (p + 12 + x) (p + 12 + x + y - (p + 12 + x)) (omega arith))
+  pub modulus_length : 12 + x + y ≤ length s → Y ≡ length (bytes_at s (12 + x) (12 + x + y - (12 + x)))
+  modulus_length h = omega (arith, ey, bytes_length s (12 + x) (12 + x + y - (12 + x)) (omega arith))
 
-  pub flags_at_is : {f : ℕ} → f ≡ number (bytes_at s (p + 12 + x + y) 4) → f ≡ number (bytes_at (drop p s) (12 + X + Y) 4)
+  pub flags_at_is : {f : ℕ} → f ≡ number (bytes_at s (12 + x + y) 4) → f ≡ number (bytes_at s (12 + X + Y) 4)
   flags_at_is q =
-      let i : p + 12 + x + y ≡ p + (12 + X + Y) = omega (arith, x_is, y_is) in
-      q ∙ ap (λ (k : ℕ). number (bytes_at s k 4)) i ∙ ap number (sym (at_drop s p (12 + X + Y) 4))
+      let i : 12 + x + y ≡ 12 + X + Y = omega (arith, ex, ey) in
+      q ∙ ap (λ (k : ℕ). number (bytes_at s k 4)) i
 
   -- x and y make the length, or do not.
-  module _ (l : ℕ) (el : l ≡ number (bytes_at s (p + 2) 2)) where
+  module _ (l : ℕ) (el : l ≡ number (bytes_at s 2 2)) where
     made : 12 + X + Y + 4 ≡ 16 + x + y
-    made = omega (arith, x_is, y_is)
+    made = omega (arith, ex, ey)
 
-    pub made_yes : 16 + x + y ≡ l → eqb (12 + X + Y + 4) (number (bytes_at (drop p s) 2 2)) ≡ true
-    made_yes e = eq-eqb _ _ (made ∙ e ∙ number_at s p 2 2 el)
+    pub made_yes : 16 + x + y ≡ l → eqb (12 + X + Y + 4) (number (bytes_at s 2 2)) ≡ true
+    made_yes e = eq-eqb _ _ (made ∙ e ∙ el)
 
-    pub made_not : (16 + x + y ≡ l → ⊥) → eqb (12 + X + Y + 4) (number (bytes_at (drop p s) 2 2)) ≡ false
-    made_not h = ne_eqb _ _ (λ e. h (sym made ∙ e ∙ sym (number_at s p 2 2 el)))
+    pub made_not : (16 + x + y ≡ l → ⊥) → eqb (12 + X + Y + 4) (number (bytes_at s 2 2)) ≡ false
+    made_not h = ne_eqb _ _ (λ e. h (sym made ∙ e ∙ sym el))

@@ -1,9 +1,10 @@
--- One subsection, by the number of its first refusal: the outcome that the definition gives.
+-- One subsection, by what its check answers: the outcome that the definition gives.
+use Rattle.std.specs.Prelude.{⊤, Result, Ok, Err}
 use mathlib.Core.Path.{◌≡◌, refl, sym, ap, ap₂, ◌∙◌}
 use mathlib.Core.Bool.{Bool, true, false, ◌||◌, or-false, or_assoc}
 use mathlib.Core.List.{List, [], ◌∷◌, ◌++◌, append-nil}
 use mathlib.Core.Option.{Option, none, some}
-use Prim.Native.Nat.{ℕ, suc, ◌+◌, ◌-◌, ◌/◌, ◌%◌, ◌<◌, ◌≤◌}
+use Prim.Native.Nat.{ℕ, suc, ◌+◌, ◌-◌, ◌<◌, ◌≤◌}
 use native.Mathlib.Nat.{add-zero}
 use native.Mathlib.Omega.{arith}
 use lib.Dec.{leb}
@@ -14,179 +15,174 @@ use Rattle.format.specs.Bytes.{number, bytes_at}
 use Rattle.format.specs.Parts.{Kind, same_kind, Part}
 use Rattle.format.specs.Reading.{subsection_kind, Fault, fault, Test, Outcome, refused, found, need, and_then, tested, as_answer, stated, part_in, subsection_checks, subsection}
 use Rattle.format.specs.Rules.{has, of_kind}
-use Rattle.format.specs.declared.Answer.TheVariants.{Refused}
-use Rattle.format.proofs.Finding.{every_kind}
+use Rattle.format.specs.declared.Refusal.{Refusal}
 use Rattle.format.proofs.Beginnings.{kind_join}
-use Rattle.format.proofs.Tests.{then_found, tests_lead}
+use Rattle.format.proofs.Tests.{need_passed, then_found, tests_lead}
 use Rattle.format.proofs.Turns.{subsections_from, subs_more, sub_step}
-use Rattle.read_sections.specs.Refusals.{coded, first_refusal, sub_refusal}
-use Rattle.read_sections.proofs.Laws.{numbered, numbered_first, all_hold, at_drop}
+use Rattle.read_sections.specs.Refusals.{whether, first_refusal}
+use Rattle.read_sections.proofs.Laws.{all_hold, at_drop, either, test_passes, test_fails}
 
 -- ---- lists of tests
 
--- A refusal with this number at this place.
-pub record RefusedAs {A : Type 0} (o : Outcome A) (n at : ℕ) : Type 0 where
+-- A refusal that is told as r.
+pub record RefusedAs {A : Type 0} (o : Outcome A) (r : Refusal) : Type 0 where
   pub why : Fault
   pub same : o ≡ refused why
-  pub number : why.number ≡ n
-  pub stands : why.place ≡ at
+  pub told : r ≡ record { number = why.number; place = why.place }
 
 -- It is told as such, whatever would be counted, and it goes straight out.
-pub refused_told : {A : Type 0} {o : Outcome A} {n at : ℕ} (f : A → ℕ) → RefusedAs o n at → Refused n at ≡ as_answer f o
+pub refused_told : {A : Type 0} {o : Outcome A} {r : Refusal} (f : A → ℕ) → RefusedAs o r → Err r ≡ as_answer f o
 unfolding as_answer
-refused_told f r = ap₂ Refused (sym r.number) (sym r.stands) ∙ sym (ap (as_answer f) r.same)
+refused_told f w = ap (λ (r : Refusal). Err r) w.told ∙ sym (ap (as_answer f) w.same)
 
-pub refused_then : {A B : Type 0} {o : Outcome A} {n at : ℕ} (next : A → Outcome B) → RefusedAs o n at → RefusedAs (and_then o next) n at
+pub refused_then : {A B : Type 0} {o : Outcome A} {r : Refusal} (next : A → Outcome B) → RefusedAs o r → RefusedAs (and_then o next) r
 unfolding and_then
-refused_then next r = record { why = r.why; same = ap (λ y. and_then y next) r.same; number = r.number; stands = r.stands }
+refused_then next w = record { why = w.why; same = ap (λ y. and_then y next) w.same; told = w.told }
 
-pub refused_same : {A : Type 0} {o p : Outcome A} {n at : ℕ} → o ≡ p → RefusedAs p n at → RefusedAs o n at
-refused_same e r = record { why = r.why; same = e ∙ r.same; number = r.number; stands = r.stands }
+pub refused_same : {A : Type 0} {o p : Outcome A} {r : Refusal} → o ≡ p → RefusedAs p r → RefusedAs o r
+refused_same e w = record { why = w.why; same = e ∙ w.same; told = w.told }
 
--- The refusal is the one of this number, whose part begins at `at`.
-abbrev pub RefusedBy : {A : Type 0} → Outcome A → ℕ → ℕ → Type 0
-RefusedBy o m at = RefusedAs o (m % 256) (at + m / 256)
-
-refused_by : {A : Type 0} (n o at p : ℕ) {m : ℕ} → n < 256 → p ≡ at + o → m ≡ coded n o → RefusedBy {A = A} (refused (fault n at p)) m at
-refused_by n o at p h q e = record { why = fault n at p; same = refl; number = omega arith; stands = omega arith }
+-- What a check answers with a refusal is refused with it.
+pub refused_by : {A : Type 0} {r : Refusal} (o : Outcome A) → Err r ≡ whether o → RefusedAs o r
+unfolding whether
+refused_by (refused f) e = record { why = f; same = refl; told = cc }
+refused_by (found a) e = absurd (let o : ◌≡◌ {A = ℕ} 0 1 = cc in omega arith)
 
 -- The tests of a list stop at the first that fails.
-stop_test : {A : Type 0} (b : Bool) (f : Fault) (rest : Outcome A) (m n k at : ℕ) → (m ≡ n → RefusedBy {A = A} (refused f) m at)
-    → (m ≡ k → RefusedBy rest m at) → m ≡ elim b as (λ x. ℕ) [ true ↦ k | false ↦ n ] → RefusedBy (need b f rest) m at
-unfolding need
-stop_test true f rest m n k at a b e = b e
-stop_test false f rest m n k at a b e = a e
-
-pub stops : {A : Type 0} {m : ℕ} (at : ℕ) (cs : List Test) (rest : Outcome A) → numbered cs ≡ true → m ≡ first_refusal cs → (m ≡ 0 → ⊥)
-    → RefusedBy (tested at cs rest) m at
-unfolding tested first_refusal
-stops at [] rest f e h = absurd (h e)
-stops {m = m} at (c ∷ cs) rest f e h =
-    let s = numbered_first c cs f in
-    stop_test c.holds _ (tested at cs rest) m _ (first_refusal cs) at
-    (λ q. refused_by c.refusal c.offset at (at + c.offset) s.1 refl q) (λ q. stops at cs rest s.2 q h) e
+pub stops : {A : Type 0} {r : Refusal} (p : ℕ) (cs : List Test) (rest : Outcome A) → Err r ≡ first_refusal p cs → RefusedAs (tested p cs rest) r
+unfolding tested first_refusal whether need
+stops p [] rest e = absurd (let o : ◌≡◌ {A = ℕ} 0 1 = cc in omega arith)
+stops p (c ∷ cs) rest e =
+    either c.holds
+    (λ h. refused_same (need_passed c.holds _ (tested p cs rest) h) (stops p cs rest (e ∙ test_passes p c cs h)))
+    (λ h. record { why = fault c.refusal p (p + c.offset); same = rw h; told = let q = e ∙ test_fails p c cs h in cc })
 
 -- Where none fails they lead to the rest.
-pub leads : {A : Type 0} (at : ℕ) (cs : List Test) (rest : Outcome A) → numbered cs ≡ true → first_refusal cs ≡ 0 → tested at cs rest ≡ rest
-leads at cs rest f e = tests_lead at cs rest (all_hold cs f (sym e))
+pub leads : {A : Type 0} {u : ⊤} (p : ℕ) (cs : List Test) (rest : Outcome A) → Ok u ≡ first_refusal p cs → tested p cs rest ≡ rest
+leads p cs rest e = tests_lead p cs rest (all_hold p cs e)
 
--- ---- the number of a subsection, by its tag
+-- What is found after the tests does not matter to whether one refuses.
+checked : {A : Type 0} (p : ℕ) (cs : List Test) (a : A) → whether (tested p cs (found a)) ≡ first_refusal p cs
+unfolding tested first_refusal whether need
+checked p [] a = refl
+checked p (c ∷ cs) a =
+    either c.holds
+    (λ h. ap whether (need_passed c.holds _ (tested p cs (found a)) h) ∙ checked p cs a ∙ sym (test_passes p c cs h))
+    (λ h. rw h)
 
-module _ (x : Bool) (o : Kind) (before : List Part) (n : ℕ) (r : List ℕ) where
-  -- Under four bytes.
-  pub sub_short : n < 4 → 12 ≡ sub_refusal x o before n r
-  unfolding sub_refusal
-  sub_short h = rw (lt-leb 4 n h, sub_refusal)
+-- The offset 0 of a part is its place.
+pub at_start : {w : Refusal} {n p : ℕ} → w ≡ record { number = n; place = p + 0 } → w ≡ record { number = n; place = p }
+at_start {n = n} e = e ∙ ap (λ (i : ℕ). record { number = n; place = i }) (omega arith)
 
-  -- By the kind that its tag tells.
-  abbrev by_number : Option Kind → ℕ
-  by_number m = elim m [ none ↦ 13 | some k ↦ first_refusal (subsection_checks x k (has k before) n r) ]
-
-  sub_told : {m : Option Kind} → 4 ≤ n → subsection_kind o (number (bytes_at r 0 2)) ≡ m → by_number m ≡ sub_refusal x o before n r
-  unfolding sub_refusal
-  sub_told h e = sym (ap₂ (λ (b : Bool) (y : Option Kind). elim b as (λ z. ℕ) [ false ↦ 12 | true ↦ by_number y ]) (le-leb 4 n h) e)
-
-  -- A tag that is unknown here.
-  pub sub_unknown : 4 ≤ n → subsection_kind o (number (bytes_at r 0 2)) ≡ none → 13 ≡ sub_refusal x o before n r
-  sub_unknown h e = sub_told h e
-
-  -- A tag of a kind: the first refusal of its tests.
-  pub sub_known : {m : ℕ} (k : Kind) (seen : Bool) → 4 ≤ n → subsection_kind o (number (bytes_at r 0 2)) ≡ some k → has k before ≡ seen
-      → m ≡ first_refusal (subsection_checks x k seen n r) → m ≡ sub_refusal x o before n r
-  sub_known k seen h e q w = w ∙ ap (λ (b : Bool). first_refusal (subsection_checks x k b n r)) (sym q) ∙ sub_told h e
-
--- ---- a subsection
-
--- Every test of a subsection has a number.
-sub_numbered : (x : Bool) (k : Kind) (seen : Bool) (n : ℕ) (r : List ℕ) → numbered (subsection_checks x k seen n r) ≡ true
-sub_numbered x k seen n r = every_kind (λ j. numbered (subsection_checks x j seen n r)) refl k
+-- ---- a subsection, by its tag
 
 module _ (x : Bool) (o : Kind) (before : List Part) (at n : ℕ) (r : List ℕ) where
   -- The subsection's outcome by the kind that its tag tells.
   abbrev by_kind : Option Kind → Outcome Part
   by_kind m = elim m [ none ↦ refused (fault 13 at at) | some k ↦ tested at (subsection_checks x k (has k before) n r) (found (part_in k r)) ]
 
-  kind_stops : {m : ℕ} (t : Option Kind) → m ≡ by_number x o before n r t → (m ≡ 0 → ⊥) → RefusedBy (by_kind t) m at
-  kind_stops none e h = refused_by 13 0 at at (omega arith) (omega arith) e
-  kind_stops (some k) e h = stops at (subsection_checks x k (has k before) n r) (found (part_in k r)) (sub_numbered x k (has k before) n r) e h
+  told_by : {b : Bool} {m : Option Kind} → leb 4 n ≡ b → subsection_kind o (number (bytes_at r 0 2)) ≡ m
+      → whether (subsection x o before at n r) ≡ whether (need b (fault 12 at at) (by_kind m))
+  unfolding subsection
+  told_by h e = ap₂ (λ (b : Bool) (y : Option Kind). whether (need b (fault 12 at at) (by_kind y))) h e
 
-  -- A subsection with a number is refused with it, at its place.
-  sub_stops : {m : ℕ} → m ≡ sub_refusal x o before n r → (m ≡ 0 → ⊥) → RefusedBy (subsection x o before at n r) m at
-  unfolding subsection sub_refusal
-  sub_stops e h =
-      let told : Option Kind = subsection_kind o (number (bytes_at r 0 2)) in
-      stop_test (leb 4 n) (fault 12 at at) (by_kind told) _ 12 (by_number x o before n r told) at
-      (λ q. refused_by 12 0 at at (omega arith) (omega arith) q) (λ q. kind_stops told q h) e
+  -- Under four bytes.
+  pub sub_short : {w : Refusal} → w ≡ record { number = 12; place = at } → n < 4 → Err w ≡ whether (subsection x o before at n r)
+  unfolding whether need
+  sub_short e h = ap (λ (v : Refusal). Err v) e ∙ sym (told_by (lt-leb 4 n h) refl)
 
-  -- One without a number is found, as the kind that its tag tells.
+  -- A tag that is unknown here.
+  pub sub_unknown : {w : Refusal} → w ≡ record { number = 13; place = at } → 4 ≤ n → subsection_kind o (number (bytes_at r 0 2)) ≡ none
+      → Err w ≡ whether (subsection x o before at n r)
+  unfolding whether need
+  sub_unknown e h q = ap (λ (v : Refusal). Err v) e ∙ sym (told_by (le-leb 4 n h) q)
+
+  -- A tag of a kind: the first refusal of its tests.
+  pub sub_known : {a : Result ⊤ Refusal} (k : Kind) (seen : Bool) → 4 ≤ n → subsection_kind o (number (bytes_at r 0 2)) ≡ some k → has k before ≡ seen
+      → a ≡ first_refusal at (subsection_checks x k seen n r) → a ≡ whether (subsection x o before at n r)
+  unfolding need
+  sub_known k seen h e q w =
+      w
+      ∙ ap (λ (b : Bool). first_refusal at (subsection_checks x k b n r)) (sym q)
+      ∙ sym (checked at (subsection_checks x k (has k before) n r) (part_in k r))
+      ∙ sym (told_by (le-leb 4 n h) e)
+
+  -- One that no check refuses is found, as the kind that its tag tells.
   pub record FoundAs : Type 0 where
     pub kind : Kind
     pub told : subsection_kind o (number (bytes_at r 0 2)) ≡ some kind
     pub same : subsection x o before at n r ≡ found (part_in kind r)
 
-  find_kind : (b : Bool) (m : Option Kind) → leb 4 n ≡ b → subsection_kind o (number (bytes_at r 0 2)) ≡ m
-      → ◌≡◌ {A = ℕ} (elim b [ false ↦ 12 | true ↦ by_number x o before n r m ]) 0 → FoundAs
-  unfolding subsection need
-  find_kind false m q w e = absurd (omega arith)
-  find_kind true none q w e = absurd (omega arith)
+  find_kind : {u : ⊤} (b : Bool) (m : Option Kind) → leb 4 n ≡ b → subsection_kind o (number (bytes_at r 0 2)) ≡ m
+      → Ok u ≡ whether (need b (fault 12 at at) (by_kind m)) → FoundAs
+  unfolding subsection need whether
+  find_kind false m q w e = absurd (let z : ◌≡◌ {A = ℕ} 0 1 = cc in omega arith)
+  find_kind true none q w e = absurd (let z : ◌≡◌ {A = ℕ} 0 1 = cc in omega arith)
   find_kind true (some k) q w e = record {
     kind = k;
     told = w;
     same =
         ap₂ (λ (c : Bool) (y : Option Kind). need c (fault 12 at at) (by_kind y)) q w
-        ∙ leads at (subsection_checks x k (has k before) n r) (found (part_in k r)) (sub_numbered x k (has k before) n r) e;
+        ∙ leads at (subsection_checks x k (has k before) n r) (found (part_in k r)) (e ∙ checked at (subsection_checks x k (has k before) n r) (part_in k r));
   }
 
-  pub sub_finds : {m : ℕ} → m ≡ sub_refusal x o before n r → m ≡ 0 → FoundAs
-  unfolding sub_refusal
-  sub_finds e z = find_kind (leb 4 n) (subsection_kind o (number (bytes_at r 0 2))) refl refl (sym e ∙ z)
+  pub sub_finds : {u : ⊤} → Ok u ≡ whether (subsection x o before at n r) → FoundAs
+  sub_finds e = find_kind (leb 4 n) (subsection_kind o (number (bytes_at r 0 2))) refl refl (e ∙ told_by refl refl)
 
--- ---- a turn of the loop over the subsections of a section that ends at e
+-- What is told of the bytes of a part is told of the section's, from its offset on.
+pub told_of : {a : Result ⊤ Refusal} {r t : List ℕ} {at p m n : ℕ} (x : Bool) (o : Kind) (before : List Part) → (r ≡ t) × (at ≡ p) × (m ≡ n)
+    → a ≡ whether (subsection x o before at m r) → a ≡ whether (subsection x o before p n t)
+told_of {t = t} {at = at} {n = n} x o before e f =
+    f ∙ ap₂ (λ (m : ℕ) (r : List ℕ). whether (subsection x o before at m r)) e.2 e.0 ∙ ap (λ (p : ℕ). whether (subsection x o before p n t)) e.1
 
--- After a place, the bytes at offset 0 stand at the place.
-pub at_here : (s : List ℕ) (q n : ℕ) → number (bytes_at (drop q s) 0 n) ≡ number (bytes_at s q n)
-at_here s q n = ap number (at_drop s q 0 n ∙ ap (λ (i : ℕ). bytes_at s i n) (add-zero q))
+-- ---- a turn of the loop over the subsections of a section, whose bytes are r, at a place; its length is e
 
-module _ (s : List ℕ) (x : Bool) (o : Kind) (done : List Part) (q e : ℕ) (h : q < e) where
-  -- The subsection at q is refused: so are the subsections from q on.
-  pub loop_stops : {m : ℕ} → m ≡ sub_refusal x o done (e - q) (drop q s) → (m ≡ 0 → ⊥)
-      → RefusedBy (subsections_from x o done q (e - q) (drop q s)) m q
-  loop_stops f z =
-      refused_same (subs_more x o done q (e - q) (drop q s) (omega arith))
-      (refused_then _ (sub_stops x o done q (e - q) (drop q s) f z))
+-- After an offset, the bytes at offset 0 stand at the offset.
+pub at_here : (r : List ℕ) (q n : ℕ) → number (bytes_at (drop q r) 0 n) ≡ number (bytes_at r q n)
+at_here r q n = ap number (at_drop r q 0 n ∙ ap (λ (i : ℕ). bytes_at r i n) (add-zero q))
+
+module _ (r : List ℕ) (at : ℕ) (x : Bool) (o : Kind) (done : List Part) (q e : ℕ) (h : q < e) where
+  -- The subsection at offset q is refused: so are the subsections from there on.
+  pub loop_stops : {w : Refusal} → Err w ≡ whether (subsection x o done (at + q) (e - q) (drop q r))
+      → RefusedAs (subsections_from x o done (at + q) (e - q) (drop q r)) w
+  loop_stops f =
+      refused_same (subs_more x o done (at + q) (e - q) (drop q r) (omega arith))
+      (refused_then _ (refused_by (subsection x o done (at + q) (e - q) (drop q r)) f))
 
   -- The subsection at q is found: it has four bytes and ends within the section.
-  pub loop_room : {m : ℕ} → m ≡ sub_refusal x o done (e - q) (drop q s) → m ≡ 0
-      → (4 ≤ number (bytes_at s (q + 2) 2)) × (number (bytes_at s (q + 2) 2) ≤ e - q)
-  loop_room f z =
-      let g = sub_finds x o done q (e - q) (drop q s) f z in
-      let r = sub_step x o done q (e - q) (drop q s) (part_in g.kind (drop q s)) g.same in
-      let l : stated (drop q s) ≡ number (bytes_at s (q + 2) 2) = ap number (at_drop s q 2 2) in
-      (omega (arith, r.0), omega (arith, r.1))
+  pub loop_room : {u : ⊤} → Ok u ≡ whether (subsection x o done (at + q) (e - q) (drop q r))
+      → (4 ≤ number (bytes_at r (q + 2) 2)) × (number (bytes_at r (q + 2) 2) ≤ e - q)
+  loop_room f =
+      let g = sub_finds x o done (at + q) (e - q) (drop q r) f in
+      let w = sub_step x o done (at + q) (e - q) (drop q r) (part_in g.kind (drop q r)) g.same in
+      let l : stated (drop q r) ≡ number (bytes_at r (q + 2) 2) = ap number (at_drop r q 2 2) in
+      (omega (arith, w.0), omega (arith, w.1))
 
   -- Then the loop goes on after it, t bytes further, with that part after the earlier ones.
   pub record GoesOn (t : ℕ) : Type 0 where
     pub kind : Kind
-    pub told : subsection_kind o (number (bytes_at s q 2)) ≡ some kind
-    pub same : subsections_from x o (done ++ part_in kind (drop q s) ∷ []) (q + t) (e - (q + t)) (drop (q + t) s)
-        ≡ subsections_from x o done q (e - q) (drop q s)
+    pub told : subsection_kind o (number (bytes_at r q 2)) ≡ some kind
+    pub same : subsections_from x o (done ++ part_in kind (drop q r) ∷ []) (at + (q + t)) (e - (q + t)) (drop (q + t) r)
+        ≡ subsections_from x o done (at + q) (e - q) (drop q r)
 
-  pub loop_on : {m t : ℕ} → m ≡ sub_refusal x o done (e - q) (drop q s) → m ≡ 0 → t ≡ number (bytes_at s (q + 2) 2) → GoesOn t
-  loop_on {t = t} f z l =
-      let g = sub_finds x o done q (e - q) (drop q s) f z in
-      let r = loop_room f z in
-      let st : stated (drop q s) ≡ t = ap number (at_drop s q 2 2) ∙ sym l in
-      let rest : drop (stated (drop q s)) (drop q s) ≡ drop (q + t) s = ap (λ (y : ℕ). drop y (drop q s)) st ∙ drop-drop t q s in
-      let left : e - q - stated (drop q s) ≡ e - (q + t) = omega arith in
+  pub loop_on : {u : ⊤} {t : ℕ} → Ok u ≡ whether (subsection x o done (at + q) (e - q) (drop q r)) → t ≡ number (bytes_at r (q + 2) 2) → GoesOn t
+  loop_on {t = t} f l =
+      let g = sub_finds x o done (at + q) (e - q) (drop q r) f in
+      let w = loop_room f in
+      let st : stated (drop q r) ≡ t = ap number (at_drop r q 2 2) ∙ sym l in
+      let rest : drop (stated (drop q r)) (drop q r) ≡ drop (q + t) r = ap (λ (y : ℕ). drop y (drop q r)) st ∙ drop-drop t q r in
+      let left : e - q - stated (drop q r) ≡ e - (q + t) = omega arith in
+      let place : at + q + stated (drop q r) ≡ at + (q + t) = omega (arith, st) in
+      let more : List Part = done ++ part_in g.kind (drop q r) ∷ [] in
       record {
         kind = g.kind;
-        told = sym (ap (subsection_kind o) (at_here s q 2)) ∙ g.told;
+        told = sym (ap (subsection_kind o) (at_here r q 2)) ∙ g.told;
         same =
             sym
-            (subs_more x o done q (e - q) (drop q s) (omega arith)
+            (subs_more x o done (at + q) (e - q) (drop q r) (omega arith)
             ∙ then_found _ g.same
-            ∙ ap₂ (λ (a : ℕ) (y : List ℕ). subsections_from x o (done ++ part_in g.kind (drop q s) ∷ []) (q + stated (drop q s)) a y) left rest
-            ∙ ap (λ (a : ℕ). subsections_from x o (done ++ part_in g.kind (drop q s) ∷ []) (q + a) (e - (q + t)) (drop (q + t) s)) st);
+            ∙ ap₂ (λ (a : ℕ) (y : List ℕ). subsections_from x o more (at + q + stated (drop q r)) a y) left rest
+            ∙ ap (λ (a : ℕ). subsections_from x o more a (e - (q + t)) (drop (q + t) r)) place);
       }
 
 -- ---- lists with one part more

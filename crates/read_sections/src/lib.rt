@@ -1,107 +1,73 @@
 // Internal: the checks of sections 11, 13 and 15, and how the checks of every section and subsection begin, each test once and in
-// order. The functions ask that the bytes are there that earlier tests have shown to be there.
+// order. A part says which of its bytes are there; the functions ask besides what earlier tests have shown.
 #![tactic(auto)]
 
+pub mod part; // part.rt: a part of what is read
 pub mod plain; // plain.rt: sections 13 and 15
 pub mod public_key; // public_key.rt: section 11
 
-ghost use Rattle.std.specs.Prelude.{◌≡◌, ◌+◌, ◌/◌, ◌%◌, ◌≤◌, length, drop};
-ghost use Rattle.format.specs.Rules.{longest};
-ghost use Rattle.format.specs.declared.Answer.TheVariants.{Refused};
-ghost use Rattle.read_sections.specs.Refusals.{coded, first_refusal, head_checks, sub_head_checks, fixed_head_checks};
+ghost use Rattle.std.specs.Prelude.{◌≡◌, ◌≤◌};
+ghost use Rattle.read_sections.specs.Refusals.{first_refusal, head_checks, sub_head_checks, fixed_head_checks};
 
-use format::Answer;
+use crate::part::PartBytes;
+use format::Refusal;
+use format::refusals::{
+    REPEATED_SECTION, REPEATED_SUBSECTION, RESERVED, SECTION_LENGTH, SUBSECTION_LENGTH, VERSION,
+};
 use read_fields::two;
 
-// What a check function returns: 0 where all tests pass, else the number of the refusal plus 256 times the offset, in the
-// part, of the field tested. A refusal at the part's start is its number alone. The constants are named for the fields.
-const SECTION_VERSION: u32 = 8 + 256 * 1;
-
-const SECTION_LENGTH: u32 = 6 + 256 * 2;
-
-// The inner lengths of a section, and of a subsection, don't make its length; the latter also for its least length and its room.
-pub const SECTION_INNER_LENGTHS: u32 = 15 + 256 * 2;
-
-pub const SUBSECTION_LENGTH: u32 = 12 + 256 * 2;
-
-const SUBSECTION_VERSION: u32 = 8 + 256 * 4;
-
-pub const SUBSECTION_RESERVED: u32 = 10 + 256 * 5;
-
-// The refusal at this offset of its part.
-pub fn at_offset(refusal: u32, offset: usize) -> u32
-    requires { (refusal ≤ 255) × (offset ≤ longest) }
-    ensures { result ≡ coded refusal offset }
+// The version, the length and the kind of a section: the first refusal.
+pub fn section_head(part: PartBytes, least: usize, seen: bool) -> Result<(), Refusal>
+    ensures { result ≡ first_refusal part.entry.place (head_checks least seen part.entry.bytes.now) }
 {
-    refusal + 256 * offset as u32
-}
-
-// The answer of what a check function returned of the part at p.
-pub fn refused(found: u32, p: usize) -> Answer
-    requires { p ≤ longest }
-    ensures { result ≡ Refused (found % 256) (p + found / 256) }
-{
-    Answer::Refused(found % 256, p as u32 + found / 256)
-}
-
-// The version, the length and the kind of the section at p, of which four bytes are there: the first refusal, or 0.
-pub fn section_head(s: &[u8], p: usize, least: usize, seen: bool) -> u32
-    requires { (p + 4 ≤ length s.now) × (length s.now ≤ longest) }
-    ensures { result ≡ first_refusal (head_checks least seen (drop p s.now)) }
-{
-    if s[p + 1] != 0 {
-        return SECTION_VERSION;
+    if part.bytes[1] != 0 {
+        return Err(part.refused(VERSION, 1));
     }
-    let len = two(s, p + 2);
-    if len < least {
-        return SECTION_LENGTH;
+    let length = two(part.bytes, 2);
+    if length < least {
+        return Err(part.refused(SECTION_LENGTH, 2));
     }
-    if s.len() - p < len {
-        return SECTION_LENGTH;
+    if part.bytes.len() < length {
+        return Err(part.refused(SECTION_LENGTH, 2));
     }
     if seen {
-        return 9;
+        return Err(part.refused(REPEATED_SECTION, 0));
     }
-    0
+    Ok(())
 }
 
-// The length, the tag and the version of the subsection at q, where n bytes are left of its section and four are there.
-pub fn subsection_head(s: &[u8], q: usize, n: usize, least: usize, seen: bool) -> u32
-    requires { (4 ≤ n) × (q + n ≤ length s.now) × (length s.now ≤ longest) × (5 ≤ least) }
-    ensures { result ≡ first_refusal (sub_head_checks least seen n (drop q s.now)) }
+// The length, the tag and the version of a subsection.
+pub fn subsection_head(part: PartBytes, least: usize, seen: bool) -> Result<(), Refusal>
+    requires { 5 ≤ least }
+    ensures { result ≡ first_refusal part.entry.place (sub_head_checks least seen part.entry.left part.entry.bytes.now) }
 {
-    let len = two(s, q + 2);
-    if len < least {
-        return SUBSECTION_LENGTH;
-    }
-    let past_section = n < len;
-    if past_section {
-        return SUBSECTION_LENGTH;
+    let length = two(part.bytes, 2);
+    let past_section = part.left < length;
+    if length < least || past_section {
+        return Err(part.refused(SUBSECTION_LENGTH, 2));
     }
     if seen {
-        return 14;
+        return Err(part.refused(REPEATED_SUBSECTION, 0));
     }
-    if s[q + 4] != 0 {
-        return SUBSECTION_VERSION;
+    if part.bytes[4] != 0 {
+        return Err(part.refused(VERSION, 4));
     }
-    0
+    Ok(())
 }
 
-// The tests of the subsection at q that is always of this length, up to its one reserved byte: 0002 and 0004 of a rule, 0001 and
-// 0002 of section 14.
-pub fn fixed_subsection_head(s: &[u8], q: usize, n: usize, fixed: usize, seen: bool) -> u32
-    requires { (4 ≤ n) × (q + n ≤ length s.now) × (length s.now ≤ longest) × (6 ≤ fixed) }
-    ensures { result ≡ first_refusal (fixed_head_checks fixed seen n (drop q s.now)) }
+// The tests of a subsection that is always of this length, up to its one reserved byte: 0002 and 0004 of a rule, 0001 and 0002
+// of section 14.
+pub fn fixed_subsection_head(part: PartBytes, fixed: usize, seen: bool) -> Result<(), Refusal>
+    requires { 6 ≤ fixed }
+    ensures { result ≡ first_refusal part.entry.place (fixed_head_checks fixed seen part.entry.left part.entry.bytes.now) }
 {
-    let h = subsection_head(s, q, n, fixed, seen);
-    if h != 0 {
-        return h;
+    subsection_head(part, fixed, seen)?;
+    let length_at = 2;
+    if two(part.bytes, length_at) != fixed {
+        return Err(part.refused(SUBSECTION_LENGTH, length_at));
     }
-    if two(s, q + 2) != fixed {
-        return SUBSECTION_LENGTH;
+    if part.bytes[5] != 0 {
+        return Err(part.refused(RESERVED, 5));
     }
-    if s[q + 5] != 0 {
-        return SUBSECTION_RESERVED;
-    }
-    0
+    Ok(())
 }

@@ -1,17 +1,18 @@
 -- The header's tests, and the answer after them.
+use Rattle.std.specs.Prelude.{⊤, Ok, Err}
 use mathlib.Core.Path.{◌≡◌, refl, sym, ap, ◌∙◌}
 use mathlib.Core.Bool.{Bool, true, false, ◌&&◌, and-false}
 use mathlib.Core.List.{List, []}
-use Prim.Native.Nat.{ℕ, suc, ◌+◌, ◌/◌, ◌%◌, ◌<◌, ◌≤◌}
+use Prim.Native.Nat.{ℕ, suc, ◌<◌, ◌≤◌}
 use native.Mathlib.Omega.{arith}
 use lib.Dec.{eqb, leb}
 use lib.ListN.{length, get_or, take, drop, length-drop}
 use lib.Seq.{take_all, length-take-le}
-use borrow.Author.Tests.{eq-eqb, ne_eqb, eqb-true, eqb-false, le-leb, lt-leb, leb-true}
-use Rattle.format.specs.Parts.{external, known_id}
+use borrow.Author.Tests.{eqb-true, le-leb, lt-leb, leb-true}
+use Rattle.format.specs.Parts.{external}
 use Rattle.format.specs.Rules.{longest}
 use Rattle.format.specs.Reading.{as_answer, id_of, stated, length_allowed, header_checks, sections, row_count, reading, answer}
-use Rattle.format.specs.declared.Answer.TheVariants.{Refused}
+use Rattle.format.specs.declared.Refusal.{Refusal}
 use Rattle.format.proofs.Finding.{and_split}
 use Rattle.format.proofs.Tests.{Hold}
 use Rattle.format.proofs.Turns.{sections_from_is}
@@ -21,23 +22,6 @@ use Rattle.read_sections.proofs.Subs.{refused_told, stops, leads}
 use Rattle.read_token.specs.Progress.{sections_answer}
 
 -- ---- the id
-
--- The two known ids stand next to each other.
-pub id_known : (i : ℕ) → 0x1E ≤ i → i < 0x20 → true ≡ known_id i
-id_known i lo hi = go (eqb i 0x1E) refl
-  where
-    go : (b : Bool) → eqb i 0x1E ≡ b → true ≡ known_id i
-    go true e = rw e
-    go false e = let d : i ≡ 0x1E → ⊥ = eqb-false i 0x1E e in rw (e, eq-eqb i 0x1F (omega arith))
-
-unknown : (i : ℕ) → (i ≡ 0x1E → ⊥) → (i ≡ 0x1F → ⊥) → false ≡ known_id i
-unknown i a b = rw (ne_eqb i 0x1E a, ne_eqb i 0x1F b)
-
-pub id_below : (i : ℕ) → i < 0x1E → false ≡ known_id i
-id_below i h = unknown i (λ e. omega arith) (λ e. omega arith)
-
-pub id_above : (i : ℕ) → 0x20 ≤ i → false ≡ known_id i
-id_above i h = unknown i (λ e. omega arith) (λ e. omega arith)
 
 -- The id of the header is its first byte.
 pub id_first : (s : List ℕ) → 0 < length s → id_of s ≡ get_or s 0 0
@@ -96,39 +80,40 @@ lengths false s c =
 
 -- ---- the answer
 
-module _ {h : ℕ} (full : Bool) (s : List ℕ) (e : h ≡ first_refusal (header_checks full s)) where
-  -- A header with a number is refused as it says.
-  pub header_stops : (h ≡ 0 → ⊥) → Refused (h % 256) (0 + h / 256) ≡ as_answer row_count (reading full s)
+module _ (full : Bool) (s : List ℕ) where
+  -- A header that a test refuses is refused with it.
+  pub header_stops : {r : Refusal} → Err r ≡ first_refusal 0 (header_checks full s) → Err r ≡ as_answer row_count (reading full s)
   unfolding reading
-  header_stops n =
+  header_stops e =
       refused_told row_count
-      (stops 0 (header_checks full s) (sections (suc (stated s)) full (external (id_of s)) [] 8 (drop 8 (take (stated s) s))) refl e n)
+      (stops 0 (header_checks full s) (sections (suc (stated s)) full (external (id_of s)) [] 8 (drop 8 (take (stated s) s))) e)
 
-  -- What a header without a number says of the lengths.
-  pub header_lengths : h ≡ 0 → Lengths s
-  header_lengths z = lengths full s (all_hold (header_checks full s) refl (sym z ∙ e))
+  module _ {u : ⊤} (e : Ok u ≡ first_refusal 0 (header_checks full s)) where
+    -- What a header that none refuses says of the lengths.
+    pub header_lengths : Lengths s
+    header_lengths = lengths full s (all_hold 0 (header_checks full s) e)
 
-  -- After it the sections in the stated length are read.
-  pub header_goes : h ≡ 0 → as_answer row_count (reading full s) ≡ sections_answer (take (stated s) s) full (external (id_of s))
-  unfolding reading
-  header_goes z =
-      let l = (header_lengths z).within in
-      let n = length-drop 8 (take (stated s) s) in
-      let m = length-take-le (stated s) s l in
-      ap (as_answer row_count)
-      (leads 0 (header_checks full s) _ refl (sym e ∙ z)
-      ∙ sections_from_is (suc (stated s)) full (external (id_of s)) [] 8 (drop 8 (take (stated s) s)) (omega arith))
+    -- After it the sections in the stated length are read.
+    pub header_goes : as_answer row_count (reading full s) ≡ sections_answer (take (stated s) s) full (external (id_of s))
+    unfolding reading
+    header_goes =
+        let l = header_lengths.within in
+        let n = length-drop 8 (take (stated s) s) in
+        let m = length-take-le (stated s) s l in
+        ap (as_answer row_count)
+        (leads 0 (header_checks full s) _ e
+        ∙ sections_from_is (suc (stated s)) full (external (id_of s)) [] 8 (drop 8 (take (stated s) s)) (omega arith))
 
 -- A token is as long as its header states, and its sections are all that is after it.
-module _ {h : ℕ} (s : List ℕ) (e : h ≡ first_refusal (header_checks true s)) (z : h ≡ 0) where
+module _ {u : ⊤} (s : List ℕ) (e : Ok u ≡ first_refusal 0 (header_checks true s)) where
   pub whole_length : stated s ≡ length s
   whole_length =
-      let c = all_hold (header_checks true s) refl (sym z ∙ e) in
+      let c = all_hold 0 (header_checks true s) e in
       let w = and_split (leb (length s) longest) (eqb (stated s) (length s)) c.1.1.1.0 in
       eqb-true (stated s) (length s) w.1
 
   pub whole_goes : answer s ≡ sections_answer s true (external (id_of s))
   unfolding answer
   whole_goes =
-      header_goes true s e z
+      header_goes true s e
       ∙ ap (λ (r : List ℕ). sections_answer r true (external (id_of s))) (take_all (stated s) s (omega (arith, whole_length)))

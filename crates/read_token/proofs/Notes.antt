@@ -16,7 +16,7 @@ use Rattle.read_sections.proofs.Laws.{byte_number, at_drop}
 use Rattle.read_sections.proofs.Subs.{at_here}
 use Rattle.read_rules.specs.Ids.{first_field, is_rule, EightBytes, Held}
 use Rattle.read_rules.proofs.Ids.{id_some, held_put, held_skip}
-use Rattle.read_rules.proofs.Whole.{eight_bytes}
+use Rattle.read_rules.proofs.Whole.{eight_bytes_at}
 use Rattle.read_token.specs.Progress.{Stands, Ahead, Noted}
 use Rattle.read_token.proofs.Steps.{some_same}
 
@@ -63,7 +63,7 @@ rule_noted {before} {old} {new} {v} {seen} s q c w i h e small held put l =
     (subst (λ (p : Part). Put old (number (get_or p.fields 0 [])) seen new) (sym r.head) (subst (λ (k : ℕ). Put old k seen new) same put))
     (omega arith)
     (ap (λ (p : Part). same_kind rule p.kind) r.head)
-    (subst (λ (p : Part). EightBytes (get_or p.fields 0 [])) (sym r.head) (eight_bytes s q small (omega arith)))
+    (subst (λ (p : Part). EightBytes (get_or p.fields 0 [])) (sym r.head) (eight_bytes_at s q small (omega arith)))
 
 -- Another section is not.
 pub other_noted : {before : List Section} {ids : List ℕ} (s : List ℕ) (q : ℕ) (c : Section) → Stands (drop q s) c → q < length s

@@ -1,39 +1,39 @@
--- A section that is no rule: its answer from the number of its refusal, and the ids of no section.
+-- A section that is no rule: its answer where nothing refuses it, and the ids of no section.
+use Rattle.std.specs.Prelude.{⊤, Ok, Err}
 use mathlib.Core.Path.{◌≡◌, refl, sym, ap, ◌∙◌}
 use mathlib.Core.Bool.{Bool, true, false, ◌||◌}
 use mathlib.Core.List.{List}
 use mathlib.Core.Option.{Option, none, some}
-use Prim.Native.Nat.{ℕ, zero, suc, ◌+◌, ◌≤◌}
+use Prim.Native.Nat.{ℕ, ◌≤◌}
 use native.Mathlib.Omega.{arith}
 use lib.Dec.{eqb}
-use lib.ListN.{length, get_or, drop}
+use lib.ListN.{length, get_or}
 use borrow.Author.Tests.{ne_eqb}
-use Rattle.format.specs.Bytes.{number, bytes_at}
 use Rattle.format.specs.Parts.{Kind, rule, information, is_subsection, section_id, same_kind}
-use Rattle.format.specs.Reading.{section_kind, part_in, kind_before, rule_before, section_checks, section, as_answer}
+use Rattle.format.specs.Reading.{id_of, section_kind, part_in, kind_before, rule_before, section_checks, section, as_answer}
 use Rattle.format.specs.Rules.{Section}
-use Rattle.format.specs.declared.Answer.TheVariants.{Accepted}
+use Rattle.format.specs.declared.Refusal.{Refusal}
 use Rattle.format.proofs.Finding.{every_kind, section_kind_sound, section_kind_told}
-use Rattle.read_sections.specs.Refusals.{first_refusal, unless, section_rows}
+use Rattle.read_sections.specs.Refusals.{first_refusal, section_rows}
 use Rattle.read_sections.proofs.Laws.{byte_number}
 use Rattle.read_sections.proofs.Heads.{section_stops, plain_found}
 
--- The kind of the section at p, from its first byte.
-pub kind_at : (k : Kind) (s : List ℕ) (p : ℕ) → p + 4 ≤ length s → is_subsection k ≡ false → get_or s p 0 ≡ section_id k
-    → section_kind (number (bytes_at s p 1)) ≡ some k
-kind_at k s p h f e = ap section_kind (sym (byte_number s p (omega arith)) ∙ e) ∙ section_kind_told k f
+-- The kind of a section, from its first byte.
+pub kind_told : (k : Kind) (r : List ℕ) → 4 ≤ length r → is_subsection k ≡ false → get_or r 0 0 ≡ section_id k → section_kind (id_of r) ≡ some k
+kind_told k r h f e = ap section_kind (sym (byte_number r 0 (omega arith)) ∙ e) ∙ section_kind_told k f
 
--- The answer of a section without subsections.
-pub alone_told : {seen : Bool} (full x : Bool) (k : Kind) (before : List Section) (s : List ℕ) (p f : ℕ) → p + 4 ≤ length s
-    → section_kind (number (bytes_at s p 1)) ≡ some k → kind_before k before ≡ seen
-    → ((y repeated : Bool) → f ≡ first_refusal (section_checks y k seen repeated (drop p s)))
-    → same_kind rule k ≡ false → same_kind information k ≡ false
-    → unless f p (Accepted 1) ≡ as_answer section_rows (section full x before p (drop p s))
-unfolding unless as_answer
-alone_told full x k before s p zero h e a t r i =
-    sym (ap (as_answer section_rows) (plain_found full x k before s p h e a refl (t x (rule_before (part_in k (drop p s)) before)) r i))
-alone_told full x k before s p (suc n) h e a t r i =
-    section_stops full x k before s p h e a refl (t x (rule_before (part_in k (drop p s)) before)) (λ q. omega arith)
+-- A section without subsections: a test refuses it, or it is found.
+module _ (full x : Bool) (k : Kind) (before : List Section) (r : List ℕ) (p : ℕ) {seen : Bool} (h : 4 ≤ length r)
+    (e : section_kind (id_of r) ≡ some k) (a : kind_before k before ≡ seen) where
+  pub alone_stops : {v : Refusal} → ((y repeated : Bool) → Err v ≡ first_refusal p (section_checks y k seen repeated r))
+      → Err v ≡ as_answer section_rows (section full x before p r)
+  alone_stops t = section_stops full x k before r p h e a refl (t x (rule_before (part_in k r) before))
+
+  pub alone_found : {u : ⊤} → ((y repeated : Bool) → Ok u ≡ first_refusal p (section_checks y k seen repeated r))
+      → same_kind rule k ≡ false → same_kind information k ≡ false → Ok 1 ≡ as_answer section_rows (section full x before p r)
+  unfolding as_answer
+  alone_found t rules informs =
+      sym (ap (as_answer section_rows) (plain_found full x k before r p h e a refl (t x (rule_before (part_in k r) before)) rules informs))
 
 -- An id other than the five is no section's.
 none_of : (a b c d e f : Bool) → (a || (b || (c || (d || (e || f))))) ≡ true → a ≡ false → b ≡ false → c ≡ false → d ≡ false → e ≡ false → f ≡ false → ⊥

@@ -1,4 +1,5 @@
 -- One section more: what the loops over sections know after it.
+use Rattle.std.specs.Prelude.{Err}
 use mathlib.Core.Path.{◌≡◌, refl, sym, ap, ◌∙◌, subst}
 use mathlib.Core.Bool.{Bool, true, false, not, ◌||◌, or-true, or-false, or_assoc}
 use mathlib.Core.List.{List, [], ◌∷◌, ◌++◌}
@@ -15,7 +16,8 @@ use Rattle.format.specs.Reading.{section_kind}
 use Rattle.format.specs.Rules.{Section, mask_covers, has_required}
 use Rattle.format.specs.Reading.{fault, Outcome, refused, found, need, and_then, tested, id_of, stated, part_in, made_length, subsection, subsections, kind_before, rule_before}
 use Rattle.format.specs.Reading.{section_checks, after_subsections, section_rest, section, row_count, parts_of, as_answer}
-use Rattle.format.specs.declared.Answer.TheVariants.{Accepted, Refused}
+use Rattle.format.specs.Answers.{Accepted}
+use Rattle.format.specs.declared.Refusal.{Refusal}
 use Rattle.format.proofs.Finding.{and_split, every_kind, same_kind_eq, section_kind_told}
 use Rattle.format.proofs.Sound.{kinds_differ}
 use Rattle.format.specs.Forms.{rule_id_form}
@@ -178,37 +180,36 @@ found_here {k} s full x before p h e =
     let n : k ≡ section_rows a.0 = a.1.1 in
     record { section = a.0; read = a.1.0; stands = w; rows = n; four = w.four; inside = omega arith; few = omega arith }
 
-refused_on : {n q : ℕ} {B : Type 0} (o : Outcome Section) (next : Section → Outcome B) (second : B → ℕ) → Refused n q ≡ as_answer section_rows o
-    → Refused n q ≡ as_answer second (and_then o next)
+refused_on : {r : Refusal} {B : Type 0} (o : Outcome Section) (next : Section → Outcome B) (second : B → ℕ) → Err r ≡ as_answer section_rows o
+    → Err r ≡ as_answer second (and_then o next)
 unfolding as_answer and_then
 refused_on (refused f) next second e = e
 refused_on (found c) next second e = absurd (let y : ◌≡◌ {A = ℕ} 0 1 = cc in omega arith)
 
 -- A refusal of the section at p is the answer.
-pub refused_here : {n m q : ℕ} {seen : List Bool} (s : List ℕ) (full x : Bool) (p : ℕ) (w : SectionsRead s full x p n seen) → p < length s
-    → Refused m q ≡ as_answer section_rows (section full x w.before p (drop p s)) → Refused m q ≡ sections_answer s full x
+pub refused_here : {n : ℕ} {r : Refusal} {seen : List Bool} (s : List ℕ) (full x : Bool) (p : ℕ) (w : SectionsRead s full x p n seen) → p < length s
+    → Err r ≡ as_answer section_rows (section full x w.before p (drop p s)) → Err r ≡ sections_answer s full x
 refused_here s full x p w h e =
     let l = length-drop p s in
     refused_on (section full x w.before p (drop p s)) _ row_count e
     ∙ ap (as_answer row_count) (sym (sections_more full x w.before p (drop p s) (omega arith)) ∙ w.same)
 
 -- Fewer than four bytes are no section.
-pub short_here : (s : List ℕ) (full x : Bool) (before : List Section) (p : ℕ) → p ≤ length s → length s < p + 4
-    → Refused 6 p ≡ as_answer section_rows (section full x before p (drop p s))
+pub short_here : {r : Refusal} (s : List ℕ) (full x : Bool) (before : List Section) (p : ℕ) → r ≡ record { number = 6; place = p } → p ≤ length s → length s < p + 4
+    → Err r ≡ as_answer section_rows (section full x before p (drop p s))
 unfolding as_answer section need
-short_here s full x before p h e =
+short_here s full x before p f h e =
     let l = length-drop p s in
     let b : leb 4 (length (drop p s)) ≡ false = lt-leb 4 (length (drop p s)) (omega arith) in
-    rw b
+    rw b (ap (λ (r : Refusal). Err r) f)
 
 -- An unknown id is no section.
-pub unknown_here : (s : List ℕ) (full x : Bool) (before : List Section) (p : ℕ) → p + 4 ≤ length s → section_kind (id_of (drop p s)) ≡ none
-    → Refused 7 p ≡ as_answer section_rows (section full x before p (drop p s))
+pub unknown_here : {v : Refusal} (r : List ℕ) (full x : Bool) (before : List Section) (p : ℕ) → v ≡ record { number = 7; place = p } → 4 ≤ length r
+    → section_kind (id_of r) ≡ none → Err v ≡ as_answer section_rows (section full x before p r)
 unfolding as_answer section need
-unknown_here s full x before p h e =
-    let l = length-drop p s in
-    let b : leb 4 (length (drop p s)) ≡ true = le-leb 4 (length (drop p s)) (omega arith) in
-    rw (b, e)
+unknown_here r full x before p f h e =
+    let b : leb 4 (length r) ≡ true = le-leb 4 (length r) h in
+    rw (b, e) (ap (λ (v : Refusal). Err v) f)
 
 -- One section more is read.
 unfoldable pub read_more : {n k l : ℕ} {seen later : List Bool} (s : List ℕ) (full x : Bool) (p : ℕ) (w : SectionsRead s full x p n seen) → p < length s
@@ -271,8 +272,9 @@ read_whole {n} {seen} s full x p w h e =
     ap Accepted w.rows
     ∙ sym (read_end s full x p w h ∙ ap (λ (b : Bool). as_answer row_count (need b (fault 20 p p) (found w.before))) e)
 
-pub read_missing : {n : ℕ} {seen : List Bool} (s : List ℕ) (full x : Bool) (p : ℕ) (w : SectionsRead s full x p n seen) → length s ≤ p
-    → (not full || get_or seen 0x14 false) ≡ false → Refused 20 p ≡ sections_answer s full x
+pub read_missing : {n : ℕ} {r : Refusal} {seen : List Bool} (s : List ℕ) (full x : Bool) (p : ℕ) (w : SectionsRead s full x p n seen) → r ≡ record { number = 20; place = p }
+    → length s ≤ p → (not full || get_or seen 0x14 false) ≡ false → Err r ≡ sections_answer s full x
 unfolding as_answer need
-read_missing {n} {seen} s full x p w h e =
-    sym (read_end s full x p w h ∙ ap (λ (b : Bool). as_answer row_count (need b (fault 20 p p) (found w.before))) e)
+read_missing s full x p w f h e =
+    ap (λ (r : Refusal). Err r) f
+    ∙ sym (read_end s full x p w h ∙ ap (λ (b : Bool). as_answer row_count (need b (fault 20 p p) (found w.before))) e)

@@ -1,5 +1,5 @@
 -- Internal: what the loops over sections have read so far.
-use Rattle.std.specs.Prelude.{◌≡◌, Bool, true, false, List, [], ◌∷◌, ◌++◌, ℕ, ◌+◌, ◌*◌, ◌<◌, ◌≤◌, length, get_or, drop}
+use Rattle.std.specs.Prelude.{◌≡◌, Bool, true, false, List, [], ◌∷◌, ◌++◌, ℕ, ◌+◌, ◌*◌, ◌<◌, ◌≤◌, length, get_or, drop, Result, Ok, Err}
 use Rattle.std.proofs.Math.Option.{some}
 use Rattle.format.specs.Slots.{least}
 use Rattle.format.specs.Forms.{rule_id_form}
@@ -7,12 +7,11 @@ use Rattle.format.specs.Parts.{Kind, rule, is_subsection, section_id, same_kind,
 use Rattle.format.specs.Reading.{section_kind, id_of, stated, part_in, kind_before, row_count, as_answer}
 use Rattle.format.specs.Rules.{longest, Section}
 use Rattle.format.proofs.Turns.{sections_from}
-use Rattle.format.specs.declared.Answer.{Answer}
-use Rattle.format.specs.declared.Answer.TheVariants.{Refused}
+use Rattle.format.specs.Answers.{Answer}
+use Rattle.format.specs.declared.Refusal.{Refusal}
 use Rattle.read_sections.specs.Refusals.{section_rows}
 use Rattle.read_rules.specs.Ids.{first_field, is_rule, Held}
 use Rattle.read_token.specs.declared.runs.Run.{Run}
-use Rattle.read_token.specs.declared.runs.Run.TheVariants.{Next, Fault}
 
 -- the section begins the bytes r
 pub record Stands (r : List ℕ) (c : Section) : Type 0 where
@@ -53,9 +52,9 @@ abbrev pub SomeRead : List ℕ → Bool → ℕ → ℕ → Type 0
 SomeRead s full p n = (x : Bool) × ((seen : List Bool) × SectionsRead s full x p n seen)
 
 -- a run of rules from p on: it ends after p with the rows so far, or its refusal is the answer
-abbrev pub Ran : List ℕ → Bool → Bool → List Bool → ℕ → Run → Type 0
-Ran s full x seen p (Next q n) = SectionsRead s full x q n seen × (p < q)
-Ran s full x seen p (Fault m q) = Refused m q ≡ sections_answer s full x
+abbrev pub Ran : List ℕ → Bool → Bool → List Bool → ℕ → Result Run Refusal → Type 0
+Ran s full x seen p (Ok run) = SectionsRead s full x run.end run.rows seen × (p < run.end)
+Ran s full x seen p (Err r) = Err r ≡ sections_answer s full x
 
 -- ---- the Rule IDs before a run
 

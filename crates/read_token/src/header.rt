@@ -4,24 +4,17 @@ ghost use Rattle.format.specs.Parts.{known_id};
 ghost use Rattle.format.specs.Reading.{length_allowed, header_checks};
 ghost use Rattle.read_sections.specs.Refusals.{first_refusal};
 
-use format::LONGEST;
+use format::refusals::{
+    HEADER_LENGTH, HEADER_RESERVED, HEADER_VERSION, SHORT_HEADER, UNKNOWN_TOKEN,
+};
+use format::{LONGEST, Refusal};
 use read_fields::{four, two};
-
-// The refusals of the header's fields with their offsets (lib.rt of read_sections).
-const VERSION: u32 = 3 + 256 * 1;
-
-const LENGTH: u32 = 4 + 256 * 2;
-
-const RESERVED: u32 = 5 + 256 * 4;
 
 // External or internal.
 fn known_id(id: u8) -> bool
     ensures { result ≡ known_id id }
 {
-    match id {
-        0x1E | 0x1F => true,
-        _ => false,
-    }
+    matches!(id, 0x1E | 0x1F)
 }
 
 // Whether the stated length is allowed: a token's is that of its buffer, a draft's at least 8 and no more than there is.
@@ -44,24 +37,24 @@ fn length_allowed(s: &[u8], full: bool) -> bool
     n <= s.len()
 }
 
-// The first refusal of the header, of a token (full) or of a draft; 0 where there is none.
-pub fn header(s: &[u8], full: bool) -> u32
-    ensures { result ≡ first_refusal (header_checks full s.now) }
+// The first refusal of the header, of a token (full) or of a draft.
+pub fn header(s: &[u8], full: bool) -> Result<(), Refusal>
+    ensures { result ≡ first_refusal 0 (header_checks full s.now) }
 {
     if s.len() < 8 {
-        return 1;
+        return Err(Refusal::at(SHORT_HEADER, 0));
     }
     if !known_id(s[0]) {
-        return 2;
+        return Err(Refusal::at(UNKNOWN_TOKEN, 0));
     }
     if s[1] != 0 {
-        return VERSION;
+        return Err(Refusal::at(HEADER_VERSION, 1));
     }
     if !length_allowed(s, full) {
-        return LENGTH;
+        return Err(Refusal::at(HEADER_LENGTH, 2));
     }
     if four(s, 4) != 0 {
-        return RESERVED;
+        return Err(Refusal::at(HEADER_RESERVED, 4));
     }
-    0
+    Ok(())
 }

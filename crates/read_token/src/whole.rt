@@ -4,53 +4,38 @@ ghost use Rattle.format.specs.Rules.{longest};
 ghost use Rattle.read_token.specs.Progress.{sections_answer};
 
 use crate::other::other_at;
-use crate::runs::{Run, rules};
-use format::Answer;
-use read_fields::{two, wide};
+use crate::runs::rules;
+use format::Refusal;
+use format::refusals::{MISSING, SECTION_LENGTH};
+use read_fields::two;
+use read_sections::part::PartBytes;
 
 // The sections of s from place 8 on.
-pub fn sections_of(s: &[u8], external: bool, full: bool) -> Answer
+pub fn sections_of(s: &[u8], external: bool, full: bool) -> Result<u32, Refusal>
     requires { (8 ≤ length s.now) × (length s.now ≤ longest) }
     ensures { result ≡ sections_answer s.now full external }
 {
     let mut seen = [false; 0x16];
     let mut p: usize = 8;
     let mut rows: u32 = 0;
+    // A `for` is no plainer: the step is the length that the section states.
     while p < s.len() {
         if s.len() < p + 4 {
-            return Answer::Refused(6, p as u32);
+            return Err(Refusal::at(SECTION_LENGTH, p));
         }
         let id = s[p];
         if id == 0x12 {
-            let run = rules(s, p, rows, full);
-            match run {
-                Run::Fault(f, at) => {
-                    return Answer::Refused(f, at);
-                }
-                Run::Next(q, n) => {
-                    p = q;
-                    rows = n;
-                    continue;
-                }
-            }
+            let run = rules(s, p, rows, full)?;
+            p = run.end;
+            rows = run.rows;
+            continue;
         }
-        let a = other_at(s, p, external, full, &seen);
-        match a {
-            Answer::Refused(f, at) => {
-                return Answer::Refused(f, at);
-            }
-            Answer::Accepted(n) => {
-                rows += n;
-            }
-        }
-        seen[wide(id)] = true;
+        rows += other_at(PartBytes::section(s, p), external, full, &seen)?;
+        seen[usize::from(id)] = true;
         p += two(s, p + 2);
     }
-    if !full {
-        return Answer::Accepted(rows);
+    if full && !seen[0x14] {
+        return Err(Refusal::at(MISSING, p));
     }
-    if seen[0x14] {
-        return Answer::Accepted(rows);
-    }
-    Answer::Refused(20, p as u32)
+    Ok(rows)
 }

@@ -11,7 +11,7 @@ use borrow.Author.Tests.{le-leb, lt-leb}
 use Rattle.format.specs.Rules.{Section}
 use Rattle.format.specs.Reading.{Outcome, refused, found, fault, need, and_then, as_answer, reading, parts_of, row_count, answer}
 use Rattle.format.specs.Table.{rows, table_of, columns, table_reading, table_answer, table_after}
-use Rattle.format.specs.declared.Answer.TheVariants.{Accepted, Refused}
+use Rattle.format.specs.Answers.{Accepted, Refused}
 use Rattle.format.specs.declared.Row.{Row}
 use Rattle.format.proofs.Rows.{row_count_is}
 use Rattle.read_rows.specs.Filling.{IsFilled}
@@ -71,7 +71,7 @@ table_long : (rs : List Row) → length (table_of rs) ≡ columns * length rs
 table_long [] = refl
 table_long (r ∷ rs) = let i = table_long rs in omega arith
 
--- The table is IsFilled.
+-- The table is filled.
 pub filled_table : {n : ℕ} {u : List ℕ} (s t : List ℕ) → ReadWhole s n → columns * n ≤ length t → IsFilled s t u
     → (Accepted n ≡ table_answer s t) × (u ≡ table_after s t)
 unfolding table_answer table_after table_reading and_then need as_answer

@@ -2,20 +2,16 @@
 ghost use Rattle.std.specs.Prelude.{◌≡◌, false};
 ghost use Rattle.format.specs.Reading.{reading, row_count, as_answer};
 
-use format::Answer;
+use format::Refusal;
 use read_fields::two;
-use read_sections::refused;
 use read_token::header::header;
 use read_token::whole::sections_of;
 
-// The answer of reading a lent draft: 0 and the rows of its parts, or the first fault and its place.
-pub fn read_draft(draft: &[u8]) -> Answer
+// The answer of reading a lent draft: the rows of its parts, or the first fault and its place.
+pub fn read_draft(draft: &[u8]) -> Result<u32, Refusal>
     ensures { result ≡ as_answer row_count (reading false draft.now) }
 {
-    let f = header(draft, false);
-    if f != 0 {
-        return refused(f, 0);
-    }
+    header(draft, false)?;
     let n = two(draft, 2);
     sections_of(&draft[..n], draft[0] == 0x1E, false)
 }

@@ -1,30 +1,24 @@
 -- The rows of a legal token as additions: what is left to add makes the whole token.
+use Rattle.std.specs.Prelude.{Ok, Err, Some}
 use mathlib.Core.Path.{◌≡◌, refl, sym, ap, ◌∙◌, subst}
-use mathlib.Core.Bool.{true, false, not}
+use mathlib.Core.Bool.{true}
 use mathlib.Core.List.{List, [], ◌∷◌, ◌++◌}
-use mathlib.Core.Logic.{◌⊎◌, ⊎_elim}
 use Prim.Native.Nat.{ℕ, suc, ◌+◌, ◌<◌, ◌≤◌}
 use native.Mathlib.Omega.{arith}
-use lib.Dec.{eqb}
-use lib.ListN.{length, drop, get_or, drop_of_length-le}
-use borrow.Author.Tests.{eq-eqb, ne_eqb}
-use denote.Enum.Declared.{tag_of}
-use Rattle.format.specs.Bytes.{every, Bytes}
+use lib.ListN.{length, drop, get_or, get_elem?, drop_of_length-le}
+use Rattle.format.specs.Bytes.{Bytes}
 use Rattle.format.specs.Layout.{Fields}
-use Rattle.format.specs.Parts.{Kind, kinds, kind_number, Part, size, written}
+use Rattle.format.specs.Parts.{Kind, kind_number, Part, size, written}
 use Rattle.format.specs.Legal.{Legal}
 use Rattle.format.specs.Reading.{Outcome, found, fault, reading, as_answer, row_count, answer}
 use Rattle.format.specs.Table.{Placed, after_header, placed}
 use Rattle.format.specs.Writer.{write_answer, draft_after, start, addition, finish}
 use Rattle.format.specs.Claims.{additions}
-use Rattle.format.specs.declared.Answer.{Answer}
+use Rattle.format.specs.Answers.{Answer, Step, Record, End, Accepted, Refused}
+use Rattle.format.specs.declared.Refusal.{Refusal}
 use Rattle.format.specs.declared.Row.{Row}
-use Rattle.format.specs.declared.Step.{Step}
-use Rattle.format.specs.declared.Step.TheVariants.{Record}
-use Rattle.format.specs.declared.Answer.TheVariants.{Accepted, Refused}
-use Rattle.format.specs.contracts.Answer as Answers
-use Rattle.format.specs.contracts.Step.{the_type}
-use Rattle.format.proofs.Finding.{and_join, every_kind, number_told}
+use Rattle.format.specs.declared.RowStep.{RowStep}
+use Rattle.format.proofs.Finding.{number_told}
 use Rattle.format.proofs.Elements.{there, some_inj}
 use Rattle.format.proofs.Rows.{placed_count}
 use Rattle.format.proofs.Tests.{found_inj, followed}
@@ -41,11 +35,22 @@ use Rattle.rebuild.specs.Rebuilding.{rebuilt}
 use Rattle.rebuild.proofs.Main.{gives_back, without_room, own_fault}
 use Rattle.rebuild_parts.specs.Rows.{RowOf, RowOfKind, AddsViews}
 use Rattle.rebuild_parts.proofs.Laws.{part_views}
-use Rattle.rebuild.specs.Rows.{IsThere, HasKind, HasRows, AddsRow}
+use Rattle.rebuild.specs.Rows.{IsThere, HasRows, AddsRow}
 
 -- ---- the addition of a row
 
--- The step at a row is a record, with the kind of its part.
+-- A token has one list of parts,
+pub same_parts : {bs : List ℕ} (l m : Legal bs) → l.parts ≡ m.parts
+same_parts {bs} l m = (one_choice l.id m.id l.parts m.parts bs l.form m.form).1
+
+-- and a row stands for one part.
+same_part : {bs : List ℕ} {k : ℕ} {p q : Part} → RowOf bs k p → RowOf bs k q → p ≡ q
+same_part {bs} {k} r s =
+    let e : r.placed ≡ s.placed =
+    some_inj (sym r.is ∙ ap (λ (ps : List Part). get_elem? (placed after_header ps) k) (same_parts r.legal s.legal) ∙ s.is) in
+    sym r.part ∙ ap (λ (x : Placed). x.part) e ∙ s.part
+
+-- The step at a row is a record, with the kind of its part:
 at_row : {bs : List ℕ} {k : ℕ} (p : Part) → RowOf bs k p → (x : Row) × ((m : ℕ) × ((step_after bs 8 k ≡ Record x m) × (x.kind ≡ kind_number p.kind)))
 at_row {bs} {k} p r =
     let x : Placed = r.placed in (
@@ -59,65 +64,35 @@ at_row {bs} {k} p r =
       ),
     )
 
-told_kind : {bs : List ℕ} {k m : ℕ} {x : Row} (p : Part) → RowOf bs k p → Record x m ≡ step_after bs 8 k
-    → x.kind ≡ kind_number p.kind
-told_kind {bs} {k} {m} {x} p r e =
-    let w = at_row p r in
-    let q : x ≡ w.0 = record_inj (e ∙ w.1.1.0) in
-    ap (λ (y : Row). y.kind) q ∙ w.1.1.1
-  where
-    record_inj : {y z : Row} {i j : ℕ} → Record y i ≡ Record z j → y ≡ z
-    record_inj h = cc
+-- no other step,
+pub no_end : {bs : List ℕ} {k : ℕ} → IsThere bs k → End ≡ step_after bs 8 k → ⊥
+no_end h e = let w = (at_row h.part h.row).1.1.0 in cc
 
-pub kind_told : {bs : List ℕ} {k m : ℕ} {x : Row} → IsThere bs k → Record x m ≡ step_after bs 8 k → HasKind bs k x.kind
-kind_told w e = record { there = w; told = λ p r. told_kind p r e }
+pub no_stop : {bs : List ℕ} {k : ℕ} {r : Refusal} → IsThere bs k → Err r ≡ step_after bs 8 k → ⊥
+no_stop h e = let w = (at_row h.part h.row).1.1.0 in cc
 
--- It is no other step,
-pub no_other_step : {bs : List ℕ} {k : ℕ} {s : Step} → IsThere bs k → s ≡ step_after bs 8 k
-    → (tag_of the_type s ≡ 1) ⊎ (tag_of the_type s ≡ 2) → ⊥
-no_other_step {bs} {k} {s} h e t =
+-- and of no other kind.
+record_inj : {y z : RowStep} → ◌≡◌ {A = Step} (Ok (Some y)) (Ok (Some z)) → y ≡ z
+record_inj h = cc
+
+pub kind_told : {bs : List ℕ} {k : ℕ} {s : RowStep} (h : IsThere bs k) → Ok (Some s) ≡ step_after bs 8 k → s.row.kind ≡ kind_number h.part.kind
+kind_told {bs} {k} {s} h e =
     let w = at_row h.part h.row in
-    let z : tag_of the_type s ≡ 0 = ap (tag_of the_type) (e ∙ w.1.1.0) in
-    ⊎_elim (λ a. omega arith) (λ a. omega arith) t
+    let q : s ≡ record { row = w.0; next = w.1.0 } = record_inj (e ∙ w.1.1.0) in
+    ap (λ (y : RowStep). y.row.kind) q ∙ w.1.1.1
 
--- and the kind is one of the twelve: none is left after the arms for them, in the order of `kinds`.
-abbrev NoArm : ℕ → Type 0 → List Kind → Type 0
-NoArm n A [] = A
-NoArm n A (k ∷ ks) = NoArm n (A × (n ≡ kind_number k → ⊥)) ks
-
-no_arm : (n : ℕ) (A : Type 0) (ks : List Kind) → NoArm n A ks → A × (every (λ (k : Kind). not (eqb n (kind_number k))) ks ≡ true)
-no_arm n A [] d = (d, refl)
-no_arm n A (k ∷ ks) d =
-    let i = no_arm n (A × (n ≡ kind_number k → ⊥)) ks d in
-    (i.0.0, and_join _ _ (ap not (ne_eqb n (kind_number k) i.0.1)) i.1)
-
-pub no_other_kind : {bs : List ℕ} {k n : ℕ} → HasKind bs k n → NoArm n (Unit {0}) kinds → ⊥
-no_other_kind {bs} {k} {n} w d =
-    let j = w.there.part.kind in
-    let e = w.told w.there.part w.there.row in
-    let f = every_kind (λ (i : Kind). not (eqb n (kind_number i))) (no_arm n (Unit {0}) kinds d).1 j in
-    let g : eqb n (kind_number j) ≡ true = eq-eqb n (kind_number j) e in
-    let z : false ≡ true = ap not (sym g) ∙ f in
-    absurd (let y : ◌≡◌ {A = ℕ} 0 1 = cc in omega arith)
-
--- A row that some part stands for stands for one of the kind that the step tells.
-pub of_kind_is : {bs : List ℕ} {k n : ℕ} (j : Kind) (w : HasKind bs k n) → n ≡ kind_number j → RowOfKind bs k j
-of_kind_is j w e =
-    let p = w.there in
-    record { part = p.part; row = p.row; kind = number_told p.part.kind j (sym (w.told p.part p.row) ∙ e) }
+pub of_kind : {bs : List ℕ} {k : ℕ} {s : RowStep} (j : Kind) → IsThere bs k → Ok (Some s) ≡ step_after bs 8 k → s.row.kind ≡ kind_number j
+    → RowOfKind bs k j
+of_kind j h e f = record { part = h.part; row = h.row; kind = number_told h.part.kind j (sym (kind_told h e) ∙ f) }
 
 -- What is said of a row's views is said of its part.
-pub of_part : {bs : List ℕ} {k n : ℕ} {a : Answer} {x : List ℕ} (d : List ℕ) (j : Kind) → HasKind bs k n → n ≡ kind_number j
-    → AddsViews bs k j d a x → AddsRow bs k d a x
-of_part {bs} {k} {n} {a} {x} d j h e w p r =
-    let q : j ≡ p.kind = number_told j p.kind (sym e ∙ h.told p r) in
+pub of_part : {bs : List ℕ} {k : ℕ} {j : Kind} {d : List ℕ} {a : Answer} {x : List ℕ} → RowOfKind bs k j → AddsViews bs k j d a x
+    → AddsRow bs k d a x
+of_part {bs} {k} {j} {d} {a} {x} h w p r =
+    let q : j ≡ p.kind = sym h.kind ∙ ap (λ (o : Part). o.kind) (same_part h.row r) in
     subst (λ (fs : Fields). Call (addition p.kind fs d) d a x) (sym (part_views p r)) (subst (λ (i : Kind). AddsViews bs k i d a x) q w)
 
 -- ---- the rows one after another
-
--- A token has one list of parts.
-pub same_parts : {bs : List ℕ} (l m : Legal bs) → l.parts ≡ m.parts
-same_parts {bs} l m = (one_choice l.id m.id l.parts m.parts bs l.form m.form).1
 
 module _ {bs : List ℕ} {n k : ℕ} (h : HasRows bs n) (lt : k < n) where
   -- Below the count there is a row, whose part is the next to be added.
@@ -148,8 +123,8 @@ module _ {bs : List ℕ} {n k : ℕ} (h : HasRows bs n) (lt : k < n) where
       )
 
 -- An accepted answer is no refusal.
-pub accepted_not : (a : Answer) (m : ℕ) → a ≡ Accepted m → tag_of Answers.the_type a ≡ 1 → ⊥
-accepted_not a m e t = let z : tag_of Answers.the_type a ≡ 0 = ap (tag_of Answers.the_type) e in omega arith
+pub accepted_not : {r : Refusal} {m : ℕ} → Err r ≡ Accepted m → ⊥
+accepted_not e = cc
 
 -- After the last row nothing is left to add.
 pub all_added : {bs : List ℕ} {n : ℕ} {d : List ℕ} → HasRows bs n → (k : ℕ) → n ≤ k → (l : Legal bs) (e : List ℕ)
@@ -197,8 +172,7 @@ to_add {bs} {d} w e =
     ap (additions w.legal.parts) (e ∙ ap (λ (o : Outcome (List ℕ)). draft_after o d) w.start) ∙ w.adds
 
 -- The token's own refusal.
-pub own_refusal : {m p : ℕ} (bs d : List ℕ) → Refused m p ≡ answer bs
-    → (Refused m p ≡ write_answer (rebuilt bs d)) × (d ≡ draft_after (rebuilt bs d) d)
+pub own_refusal : {r : Refusal} (bs d : List ℕ) → Err r ≡ answer bs → (Err r ≡ write_answer (rebuilt bs d)) × (d ≡ draft_after (rebuilt bs d) d)
 unfolding answer
 own_refusal bs d e =
     let r = told_refused row_count (reading true bs) e in

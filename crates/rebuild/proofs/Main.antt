@@ -9,7 +9,7 @@ use borrow.Author.Tests.{le-leb, lt-leb, leb-true}
 use Rattle.format.specs.Legal.{Legal}
 use Rattle.format.specs.Reading.{Fault, refused, found, fault, reading}
 use Rattle.format.specs.Writer.{write_answer}
-use Rattle.format.specs.declared.Answer.TheVariants.{Accepted}
+use Rattle.format.specs.Answers.{Accepted}
 use Rattle.format.proofs.Accepted.{legal_read}
 use Rattle.format.proofs.Tests.{found_inj, needed, need_passed, need_failed, followed, then_found, then_refused}
 use Rattle.format.proofs.Writing.{told_accepted}

@@ -1,9 +1,9 @@
 -- Internal: the rows of a token, for the functions that add their parts.
 use Rattle.std.specs.Prelude.{◌≡◌, List, ℕ, length}
-use Rattle.format.specs.Parts.{kind_number, Part}
+use Rattle.format.specs.Parts.{Part}
 use Rattle.format.specs.Legal.{Legal}
 use Rattle.format.specs.Writer.{addition}
-use Rattle.format.specs.declared.Answer.{Answer}
+use Rattle.format.specs.Answers.{Answer}
 use Rattle.writer.specs.Runs.{Call}
 use Rattle.rebuild_parts.specs.Rows.{RowOf}
 
@@ -11,11 +11,6 @@ use Rattle.rebuild_parts.specs.Rows.{RowOf}
 pub record IsThere (bs : List ℕ) (k : ℕ) : Type 0 where
   pub part : Part
   pub row : RowOf bs k part
-
--- some part, and n is the number of its kind
-pub record HasKind (bs : List ℕ) (k n : ℕ) : Type 0 where
-  pub there : IsThere bs k
-  pub told : (p : Part) → RowOf bs k p → n ≡ kind_number p.kind
 
 -- the token is legal and has n rows
 pub record HasRows (bs : List ℕ) (n : ℕ) : Type 0 where

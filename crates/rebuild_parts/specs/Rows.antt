@@ -6,7 +6,7 @@ use Rattle.format.specs.Legal.{Legal}
 use Rattle.format.specs.Table.{Placed}
 use Rattle.format.specs.Writer.{addition}
 use Rattle.format.specs.Claims.{IsRow, chosen_views}
-use Rattle.format.specs.declared.Answer.{Answer}
+use Rattle.format.specs.Answers.{Answer}
 use Rattle.writer.specs.Runs.{Call}
 
 -- row number k of the legal token stands for the part p

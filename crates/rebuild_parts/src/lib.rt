@@ -2,6 +2,8 @@
 // that the row is there and has the kind.
 #![tactic(auto)]
 
-mod numbers; // numbers.rt: a field of a row as a number
+mod fields; // fields.rt: the fields of a row
 pub mod sections; // sections.rt: the addition of a row that is a section
 pub mod subsections; // subsections.rt: the addition of a row that is a subsection
+
+pub use fields::RowFields;

@@ -5,7 +5,7 @@
 
 ghost use Rattle.std.specs.Prelude.{◌≤◌, length};
 
-use format::{Answer, LONGEST};
+use format::LONGEST;
 use list_output::{read_full, write_first};
 use reading::read;
 use rebuild::rebuild;
@@ -33,10 +33,9 @@ impl<'a> fmt::Display for Hexadecimal<'a> {
 
 // Writes the line of a field where the row has a field of this number; an empty one is there too.
 fn write_field(rt: &impl Print, token: &[u8], row: u32, field: u32) -> io::Result<()> {
-    let a = view_answer(token, row, field);
-    let Answer::Accepted(_zero) = a else {
+    if view_answer(token, row, field).is_err() {
         return Ok(());
-    };
+    }
     let bytes = Hexadecimal(view(token, row, field));
     println!(rt; "{row} {field} {bytes}")
 }
@@ -51,12 +50,12 @@ fn write_row_fields(rt: &impl Print, token: &[u8], row: u32) -> io::Result<()> {
 
 // Writes the first line of a rebuilt token and the lines of its fields.
 fn write_rebuilt(rt: &impl Print, token: &[u8], length: u32) -> io::Result<()> {
-    if token.len() == 0 {
+    if token.is_empty() {
         return Ok(());
     }
     let a = read(token);
     write_first(&mut io::writer(rt), token[0], length, a)?;
-    let Answer::Accepted(rows) = a else {
+    let Ok(rows) = a else {
         return Ok(());
     };
     for row in 0..rows {
@@ -71,21 +70,11 @@ fn write_unused(rt: &impl Print, rest: &[u8]) -> io::Result<()> {
     println!(rt; "{n} bytes after it are as they were")
 }
 
-// One less than n, and 0 for 0.
-fn one_less(n: usize) -> usize
-    ensures { result ≤ n }
-{
-    if n == 0 {
-        return 0;
-    }
-    n - 1
-}
-
 // The token in the first bytes of the draft, one too few.
 fn rebuild_short(rt: &impl Print, token: &[u8], draft: &mut [u8]) -> io::Result<()>
     requires { length token.now ≤ length draft.old }
 {
-    let room = one_less(token.len());
+    let room = token.len().saturating_sub(1);
     let a = rebuild(token, &mut draft[..room]);
     write_first(&mut io::writer(rt), 0, 0, a)
 }
@@ -93,7 +82,7 @@ fn rebuild_short(rt: &impl Print, token: &[u8], draft: &mut [u8]) -> io::Result<
 // The token in the whole draft.
 fn rebuild_whole(rt: &impl Print, token: &[u8], draft: &mut [u8]) -> io::Result<()> {
     let a = rebuild(token, draft);
-    let Answer::Accepted(n) = a else {
+    let Ok(n) = a else {
         return write_first(&mut io::writer(rt), 0, 0, a);
     };
     let end = n as usize;

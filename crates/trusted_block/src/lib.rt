@@ -36,6 +36,7 @@ pub extern "C" fn tb_read_table(token: &[u8], table: &mut [u32], second: &mut u3
 }
 
 // Where the field of a row lies in the token.
+#[tactic(auto, unfolding(format::specs::Views::view_answer))]
 #[unsafe(no_mangle)]
 pub extern "C" fn tb_view(
     token: &[u8],

@@ -2,24 +2,25 @@
 ghost use Rattle.std.specs.Prelude.{◌≡◌};
 ghost use Rattle.format.specs.GivenNumbers.{step_number, row_answer, step_second, row_kind, row_offset, row_length, row_owner, row_rule, next_of};
 
-use format::Step;
+use crate::give;
+use format::refusals::NOT_THERE;
+use format::{Refusal, Row, RowStep};
 
-// The two numbers of a step that is no row: the end, or the refusal.
-fn give_stop(s: Step, second: &mut u32) -> u32
-    ensures number { result ≡ step_number s }
-    ensures second { second.new ≡ step_second s }
-{
-    let Step::Stopped(number, place) = s else {
-        *second = 0;
-        return 0;
-    };
-    *second = place;
-    number
-}
+// What is given where there is no row.
+const NO_ROW: RowStep = RowStep {
+    row: Row {
+        kind: 0,
+        offset: 0,
+        length: 0,
+        owner: 0,
+        rule: 0,
+    },
+    next: 0,
+};
 
 // The numbers of a step.
 pub fn give_step(
-    s: Step,
+    s: Result<Option<RowStep>, Refusal>,
     second: &mut u32,
     kind: &mut u32,
     offset: &mut u32,
@@ -37,28 +38,21 @@ pub fn give_step(
     ensures rule { rule.new ≡ row_rule s }
     ensures next { next.new ≡ next_of s }
 {
-    let Step::Record(row, behind) = s else {
-        *kind = 0;
-        *offset = 0;
-        *length = 0;
-        *owner = 0;
-        *rule = 0;
-        *next = 0;
-        return give_stop(s, second);
-    };
-    *second = 0;
-    *kind = row.kind;
-    *offset = row.offset;
-    *length = row.length;
-    *owner = row.owner;
-    *rule = row.rule;
-    *next = behind;
-    0
+    let step = s.ok().flatten().unwrap_or(NO_ROW);
+    *kind = step.row.kind;
+    *offset = step.row.offset;
+    *length = step.row.length;
+    *owner = step.row.owner;
+    *rule = step.row.rule;
+    *next = step.next;
+    give(s.map(|_| 0), second)
 }
 
-// The numbers of a row that is asked for by its number, where the walk to it came to this step.
+// The numbers of a row that is asked for by its number, where the walk to it came to this step: behind the last row there is
+// none.
+#[tactic(auto, unfolding(format::specs::GivenNumbers::step_number, format::specs::GivenNumbers::row_answer))]
 pub fn give_row(
-    s: Step,
+    s: Result<Option<RowStep>, Refusal>,
     second: &mut u32,
     kind: &mut u32,
     offset: &mut u32,
@@ -77,8 +71,8 @@ pub fn give_row(
     ensures next { next.new ≡ next_of s }
 {
     let number = give_step(s, second, kind, offset, length, owner, rule, next);
-    if let Step::End = s {
-        return 22;
+    match s {
+        Ok(None) => NOT_THERE,
+        _ => number,
     }
-    number
 }

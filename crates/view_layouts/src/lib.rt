@@ -1,90 +1,135 @@
 // Internal: where the fields of a part lie, found by going through its kind's layout.
 #![tactic(auto)]
 
-ghost use Rattle.std.specs.Prelude.{◌≡◌};
-ghost use Rattle.view_layouts.specs.Digits.{ShowsKind, width_of, CountRoom, CountBehind, Standing, InSlot};
+ghost use Rattle.std.specs.Prelude.{◌≡◌, ◌+◌, ◌<◌, ◌≤◌, length};
+ghost use Rattle.format.specs.Bytes.{number, bytes_at};
+ghost use Rattle.view_layouts.specs.Widths.{widths_of, IsHeld, length_of, HasRoom, counts_after, Standing, InSlot};
 
-use format::Where;
-use read_fields::{two, wide};
+use Width::{Bytes, Count, Counted};
+use format::kinds::Kind;
+use format::refusals::NOT_THERE;
+use format::{Refusal, Span};
+use read_fields::two;
 
-// The fields of a kind, a hexadecimal digit for each, the first on the right: 1, 2, 4 or 8 is a field of so many bytes,
-// 9 one of 16, 3 of 32, 6 of 64. The first count is a in one byte and b in two, the second c and d; e is a field as long
-// as the first count says, and f one as long as the second says.
-fn digits(kind: u32) -> u64
-    ensures { ShowsKind kind result }
+// The length of a field: so many bytes; so many too, which state the length of a later field; what the count of this number
+// states, from 0.
+#[derive(Clone, Copy)]
+enum Width {
+    Bytes(usize),
+    Count(usize),
+    Counted(usize),
+}
+
+// The lengths in the table below.
+const B1: Width = Bytes(1);
+
+const B2: Width = Bytes(2);
+
+const B4: Width = Bytes(4);
+
+const B8: Width = Bytes(8);
+
+const B16: Width = Bytes(16);
+
+const B32: Width = Bytes(32);
+
+const B64: Width = Bytes(64);
+
+const N1: Width = Count(1);
+
+const N2: Width = Count(2);
+
+const X: Width = Counted(0);
+
+const Y: Width = Counted(1);
+
+// The fields of a kind.
+fn widths(kind: Kind) -> &'static [Width]
+    ensures { result.now ≡ widths_of kind }
 {
     match kind {
-        0x110000 => 0x4fed2b2211,
-        0x120000 => 0x111148211,
-        0x120001 => 0xea2122,
-        0x120002 => 0x81122,
-        0x120003 => 0xfcea1112122,
-        0x120004 => 0x81122,
-        0x120005 => 0xfceea12122,
-        0x130000 => 0x6211,
-        0x140000 => 0x42211,
-        0x140001 => 0x9831122,
-        0x140002 => 0x4421122,
-        0x150000 => 0xeb211,
-        _ => 0,
+        Kind::PublicKey => &[B1, B1, B2, B2, N2, B2, N2, X, Y, B4],
+        Kind::Rule => &[B1, B1, B2, B8, B4, B1, B1, B1, B1],
+        Kind::TransportVariant => &[B2, B2, B1, B2, N1, X],
+        Kind::TransportRule => &[B2, B2, B1, B1, B8],
+        Kind::ExportParameters => &[B2, B2, B1, B2, B1, B1, B1, N1, X, N1, Y],
+        Kind::SourceRule => &[B2, B2, B1, B1, B8],
+        Kind::TokenParameters => &[B2, B2, B1, B2, B1, N1, X, X, N1, Y],
+        Kind::Name => &[B1, B1, B2, B64],
+        Kind::Information => &[B1, B1, B2, B2, B4],
+        Kind::Protection => &[B2, B2, B1, B1, B32, B8, B16],
+        Kind::Dates => &[B2, B2, B1, B1, B2, B4, B4],
+        Kind::ApplicationData => &[B1, B1, B2, N2, X],
     }
 }
 
-// The length of a field by its digit, with the counts read before it.
-fn width(digit: u64, first: usize, second: usize) -> usize
-    ensures { result ≡ width_of digit first second }
+// The number that a count states.
+fn count(s: &[u8], place: usize, bytes: usize) -> usize
+    requires short { (0 < bytes) × (bytes < 3) }
+    requires room { place + bytes ≤ length s.now }
+    ensures { result ≡ number (bytes_at s.now place bytes) }
 {
-    match digit {
-        3 => 32,
-        6 => 64,
-        9 => 16,
-        0xa => 1,
-        0xb => 2,
-        0xc => 1,
-        0xd => 2,
-        0xe => first,
-        0xf => second,
-        _ => digit as usize,
+    if bytes == 1 {
+        return usize::from(s[place]);
     }
+    two(s, place)
 }
 
-// A count after the field at o: where the digit is the count's in one byte, or the next one, which is its in two, what
-// the field states; else what the count was before.
-fn count(s: &[u8], o: usize, digit: u64, one: u64, before: usize) -> usize
-    requires { CountRoom s.now o digit one }
-    ensures { CountBehind s.now o digit one before result }
-{
-    if digit == one {
-        return wide(s[o]);
+// The counts of a part that were passed so far.
+#[derive(Clone, Copy)]
+struct Counts {
+    numbers: [usize; 2],
+    passed: usize,
+}
+
+impl Counts {
+    // The length of a field that stands after them.
+    fn length(&self, width: Width) -> usize
+        requires { IsHeld width }
+        ensures { result ≡ length_of self.now width }
+    {
+        match width {
+            Bytes(n) | Count(n) => n,
+            Counted(which) => self.numbers[which],
+        }
     }
-    if digit == one + 1 {
-        return two(s, o);
+
+    // Goes past a field, which may be a count.
+    fn pass(&mut self, s: &[u8], place: usize, width: Width)
+        requires { HasRoom s.now place self.old width }
+        ensures { self.new ≡ counts_after s.now place self.old width }
+    {
+        if let Count(bytes) = width {
+            self.numbers[self.passed] = count(s, place, bytes);
+            self.passed += 1;
+        }
     }
-    before
 }
 
 // Where a field lies of the part of this kind that stands at this place.
-pub fn slot_at(s: &[u8], at: usize, kind: u32, field: usize) -> Where
+pub fn slot_at(s: &[u8], at: usize, kind: u32, field: usize) -> Result<Span, Refusal>
     requires { Standing s.now at kind }
     ensures { InSlot s.now at kind field result }
 {
-    let mut rest = digits(kind);
-    let mut o = at;
-    let mut first: usize = 0;
-    let mut second: usize = 0;
-    let mut left = field;
-    while rest != 0 {
-        let digit = rest % 16;
-        let n = width(digit, first, second);
-        let there = left == 0;
+    let Some(kind) = Kind::from_number(kind) else {
+        unreachable!()
+    };
+    let mut place = at;
+    let mut counts = Counts {
+        numbers: [0; 2],
+        passed: 0,
+    };
+    for (number, width) in widths(kind).iter().enumerate() {
+        let length = counts.length(*width);
+        let there = number == field;
         if there {
-            return Where::At(o as u32, n as u32);
+            return Ok(Span {
+                offset: place as u32,
+                length: length as u32,
+            });
         }
-        first = count(s, o, digit, 0xa, first);
-        second = count(s, o, digit, 0xc, second);
-        o += n;
-        left -= 1;
-        rest = rest / 16;
+        counts.pass(s, place, *width);
+        place += length;
     }
-    Where::Missing(22, 0)
+    Err(Refusal::at(NOT_THERE, 0))
 }

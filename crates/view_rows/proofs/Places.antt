@@ -1,6 +1,6 @@
 -- Going over the parts of an accepted token by the places of the code: where it starts, the row of the part at a place, and
 -- the place after it.
-use mathlib.Core.Path.{◌≡◌, sym, ap, subst}
+use mathlib.Core.Path.{◌≡◌, sym, ap, ◌∙◌, subst}
 use mathlib.Core.List.{List, ◌∷◌}
 use Prim.Native.Nat.{ℕ, ◌+◌, ◌*◌, ◌<◌}
 use native.Mathlib.Omega.{arith}
@@ -12,8 +12,9 @@ use Rattle.format.specs.Table.{Before}
 use Rattle.format.proofs.Unique.{size_pos}
 use Rattle.read_rows.specs.Places.{own_length, rules_with, rule_in, Left}
 use Rattle.read_rows.proofs.Places as Places
-use Rattle.view_layouts.specs.Digits.{Standing}
+use Rattle.view_layouts.specs.Widths.{Standing}
 use Rattle.view_rows.specs.Walk.{Whole, before, LeftAt, BeginsAt, Starts, RowAt, Behind}
+use Rattle.format.specs.declared.Row.{Row}
 use Rattle.view_rows.specs.declared.Place.{Place}
 
 -- The first place, before all parts.
@@ -37,15 +38,19 @@ moved {s} {b} {c} {e} {i} {qs} w = (w.0, subst (λ (d : Before). Left s d e i qs
 module _ {s : List ℕ} {p : Place} where
   -- ---- the row
 
-  pub section_row : {l n : ℕ} → p.at ≡ p.end → l ≡ number (bytes_at s (p.at + 2) 2)
+  pub section_row : {k l n : ℕ} → p.at ≡ p.end → k ≡ get_or s p.at 0 → l ≡ number (bytes_at s (p.at + 2) 2)
       → n ≡ rule_in (get_or s p.at 0) (rules_with (get_or s p.at 0) p.rules)
-      → RowAt s p (record { kind = get_or s p.at 0 * 65536; offset = p.at; length = l; owner = p.row; rule = n })
-  section_row h el en q qs y = Places.section_row q qs y h el en
+      → RowAt s p (record { kind = k * 65536; offset = p.at; length = l; owner = p.row; rule = n })
+  section_row {k} {l} {n} h ek el en q qs y =
+      ap (λ (i : ℕ). let r : Row = record { kind = i * 65536; offset = p.at; length = l; owner = p.row; rule = n } in r) ek
+      ∙ Places.section_row q qs y h el en
 
-  pub sub_row : {l g n : ℕ} → (p.at ≡ p.end → ⊥) → l ≡ number (bytes_at s (p.at + 2) 2) → g ≡ number (bytes_at s p.at 2)
+  pub sub_row : {k l g n : ℕ} → (p.at ≡ p.end → ⊥) → k ≡ p.id → l ≡ number (bytes_at s (p.at + 2) 2) → g ≡ number (bytes_at s p.at 2)
       → n ≡ rule_in p.id p.rules
-      → RowAt s p (record { kind = p.id * 65536 + g; offset = p.at; length = l; owner = p.owner; rule = n })
-  sub_row h el eg en q qs y = Places.sub_row q qs y h el eg en
+      → RowAt s p (record { kind = k * 65536 + g; offset = p.at; length = l; owner = p.owner; rule = n })
+  sub_row {k} {l} {g} {n} h ek el eg en q qs y =
+      ap (λ (i : ℕ). let r : Row = record { kind = i * 65536 + g; offset = p.at; length = l; owner = p.owner; rule = n } in r) ek
+      ∙ Places.sub_row q qs y h el eg en
 
   -- ---- the place after
 

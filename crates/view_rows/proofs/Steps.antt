@@ -12,7 +12,7 @@ use Rattle.format.specs.Reading.{parts_of}
 use Rattle.format.specs.Table.{Placed, Before, after_header, part_row, after, placed, rows}
 use Rattle.format.specs.Views.{next_place, step_in, step_at}
 use Rattle.format.specs.declared.Row.{Row}
-use Rattle.format.specs.declared.Step.TheVariants.{Record, End, Stopped}
+use Rattle.format.specs.Answers.{Record, End, Stopped}
 use Rattle.format.proofs.Grouping.{is_true, is_false}
 use Rattle.format.proofs.Unique.{size_any}
 use Rattle.read_rows.proofs.Places as Places

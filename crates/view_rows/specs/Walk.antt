@@ -1,5 +1,5 @@
 -- Internal: what going over the parts of an accepted token starts from and keeps.
-use Rattle.std.specs.Prelude.{◌≡◌, true, List, ◌∷◌, map, ℕ, ◌≤◌, length}
+use Rattle.std.specs.Prelude.{◌≡◌, true, List, ◌∷◌, map, ℕ, ◌-◌, ◌≤◌, length}
 use Rattle.std.proofs.Math.ListN.{get_elem?}
 use Rattle.format.specs.Bytes.{Bytes}
 use Rattle.format.specs.Parts.{Part}
@@ -41,16 +41,17 @@ RowAt s p r = (q : Part) (qs : List Part) → LeftAt s p (q ∷ qs) → r ≡ pa
 abbrev pub Behind : List ℕ → Place → Place → Type 0
 Behind s p r = (q : Part) (qs : List Part) → LeftAt s p (q ∷ qs) → (before r ≡ after (before p) q) × LeftAt s r qs
 
--- row number j of these parts from the place on is row number `row` of the sections
-abbrev pub SameRow : List Section → ℕ → Place → ℕ → List Part → Type 0
-SameRow ss row p j ps = get_elem? (placed (before p) ps) j ≡ get_elem? (placed after_header (parts_of ss)) row
+-- of these parts from the place on the row that is looked for is as far behind as it is of all the sections'
+abbrev pub SameRow : List Section → ℕ → Place → List Part → Type 0
+SameRow ss row p ps = get_elem? (placed (before p) ps) (row - p.row) ≡ get_elem? (placed after_header (parts_of ss)) row
 
--- the row that is looked for is number j from the place on
-pub record Seeking (s : List ℕ) (row : ℕ) (p : Place) (j : ℕ) : Type 0 where
+-- the row that is looked for is not before the place
+pub record Seeking (s : List ℕ) (row : ℕ) (p : Place) : Type 0 where
   pub whole : Whole s
+  pub ahead : p.row ≤ row
   pub parts : List Part
   pub left : LeftAt s p parts
-  pub same : SameRow whole.sections row p j parts
+  pub same : SameRow whole.sections row p parts
 
 -- a step among the rows of these parts from the place on is the step among those of the sections
 abbrev pub SameStep : ℕ → List Section → ℕ → Place → List Part → Type 0

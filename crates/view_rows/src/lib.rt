@@ -1,18 +1,19 @@
-// Internal: the fields and the rows of a token that the reading accepts, found by going over its parts.
+// Internal: the fields and the rows of a token that the reading accepts, found by going over its parts. The loops are no `for`: a
+// step is as long as the part states.
 #![tactic(auto)]
 
 ghost use Rattle.std.specs.Prelude.{◌≡◌};
 ghost use Rattle.format.specs.Views.{field_at, step_at};
 ghost use Rattle.view_rows.specs.Walk.{Whole, Starts, BeginsAt, RowAt, Behind};
 
-use format::{Row, Step, Where};
+use format::refusals::NOT_THERE;
+use format::{Refusal, Row, RowStep, Span};
 use read_fields::two;
 use read_rows::{own_length, rule_in, rules_with};
 use view_layouts::slot_at;
 
 // A place where a part of the token begins, or its end: the id, the row and the end of the section before it, and how
 // many rows and rules come before.
-#[derive(Drop)]
 #[derive(Clone, Copy)]
 pub struct Place {
     pub at: usize,
@@ -23,112 +24,110 @@ pub struct Place {
     pub rules: u32,
 }
 
-// The place of the first part: no section stands before it.
-fn start() -> Place
-    ensures { Starts result }
-{
-    Place {
-        at: 8,
-        end: 8,
-        id: 0,
-        row: 0,
-        owner: 0,
-        rules: 0,
+impl Place {
+    // The place of the first part: no section stands before it.
+    fn first() -> Place
+        ensures { Starts result }
+    {
+        Place {
+            at: 8,
+            end: 8,
+            id: 0,
+            row: 0,
+            owner: 0,
+            rules: 0,
+        }
     }
-}
 
-// The row of the part at this place.
-fn row_at(s: &[u8], p: Place) -> Row
-    requires { BeginsAt s.now p }
-    ensures { RowAt s.now p result }
-{
-    let at = p.at;
-    let length = two(s, at + 2);
-    if at == p.end {
-        let id = s[at];
-        let rules = rules_with(id, p.rules);
-        return Row {
-            kind: id as u32 * 65536,
+    // The row of the part at this place.
+    fn part_row(self, s: &[u8]) -> Row
+        requires { BeginsAt s.now self }
+        ensures { RowAt s.now self result }
+    {
+        let at = self.at;
+        let length = two(s, at + 2);
+        if at == self.end {
+            let id = s[at];
+            let rules = rules_with(id, self.rules);
+            return Row {
+                kind: u32::from(id) * 65536,
+                offset: at as u32,
+                length: length as u32,
+                owner: self.row as u32,
+                rule: rule_in(id, rules),
+            };
+        }
+        Row {
+            kind: u32::from(self.id) * 65536 + two(s, at) as u32,
             offset: at as u32,
             length: length as u32,
-            owner: p.row as u32,
-            rule: rule_in(id, rules),
-        };
+            owner: self.owner as u32,
+            rule: rule_in(self.id, self.rules),
+        }
     }
-    Row {
-        kind: p.id as u32 * 65536 + two(s, at) as u32,
-        offset: at as u32,
-        length: length as u32,
-        owner: p.owner as u32,
-        rule: rule_in(p.id, p.rules),
-    }
-}
 
-// The place after the part at this one.
-fn behind(s: &[u8], p: Place) -> Place
-    requires { BeginsAt s.now p }
-    ensures { Behind s.now p result }
-{
-    let at = p.at;
-    let length = two(s, at + 2);
-    if at == p.end {
-        let id = s[at];
-        return Place {
-            at: at + own_length(id, length),
-            end: at + length,
-            id: id,
-            row: p.row + 1,
-            owner: p.row,
-            rules: rules_with(id, p.rules),
-        };
-    }
-    Place {
-        at: at + length,
-        end: p.end,
-        id: p.id,
-        row: p.row + 1,
-        owner: p.owner,
-        rules: p.rules,
+    // The place after the part at this one.
+    fn behind(self, s: &[u8]) -> Place
+        requires { BeginsAt s.now self }
+        ensures { Behind s.now self result }
+    {
+        let at = self.at;
+        let length = two(s, at + 2);
+        if at == self.end {
+            let id = s[at];
+            return Place {
+                at: at + own_length(id, length),
+                end: at + length,
+                id,
+                row: self.row + 1,
+                owner: self.row,
+                rules: rules_with(id, self.rules),
+            };
+        }
+        Place {
+            at: at + length,
+            row: self.row + 1,
+            ..self
+        }
     }
 }
 
 // Where a field of a row lies.
-pub fn field_in(s: &[u8], row: usize, field: usize) -> Where
+pub fn field_in(s: &[u8], row: usize, field: usize) -> Result<Span, Refusal>
     requires { Whole s.now }
     ensures { result ≡ field_at s.now row field }
 {
-    let mut p = start();
-    let mut left = row;
+    let mut p = Place::first();
     while p.at < s.len() {
-        let there = left == 0;
+        let there = p.row == row;
         if there {
-            let found = row_at(s, p);
-            return slot_at(s, p.at, found.kind, field);
+            return slot_at(s, p.at, p.part_row(s).kind, field);
         }
-        p = behind(s, p);
-        left -= 1;
+        p = p.behind(s);
     }
-    Where::Missing(22, 0)
+    Err(Refusal::at(NOT_THERE, 0))
 }
 
 // The row that begins at a place, with the place of the next.
-pub fn step_in(s: &[u8], at: usize) -> Step
+pub fn step_in(s: &[u8], at: usize) -> Result<Option<RowStep>, Refusal>
     requires { Whole s.now }
     ensures { result ≡ step_at s.now at }
 {
     if at > s.len() {
-        return Step::Stopped(22, 0);
+        return Err(Refusal::at(NOT_THERE, 0));
     }
-    let mut p = start();
+    let mut p = Place::first();
     while p.at < at {
-        p = behind(s, p);
+        p = p.behind(s);
     }
     if p.at != at {
-        return Step::Stopped(22, 0);
+        return Err(Refusal::at(NOT_THERE, 0));
     }
     if at == s.len() {
-        return Step::End;
+        return Ok(None);
     }
-    let next = behind(s, p);
-    Step::Record(row_at(s, p), next.at as u32)
+    Ok(Some(RowStep {
+        row: p.part_row(s),
+        next: p.behind(s).at as u32,
+    }))
 }

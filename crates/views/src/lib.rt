@@ -4,52 +4,42 @@
 ghost use Rattle.std.specs.Prelude.{◌≡◌};
 ghost use Rattle.format.specs.Views.{field_at, step_at};
 
-use format::{Answer, Step, Where};
+use format::{Refusal, RowStep, Span};
 use reading::read;
 use view_rows::{field_in, step_in};
 
 // Where the field of a row lies in the token, or the refusal: the token's own, or 22.
-pub fn field_at(token: &[u8], row: u32, field: u32) -> Where
+pub fn field_at(token: &[u8], row: u32, field: u32) -> Result<Span, Refusal>
     ensures { result ≡ field_at token.now row field }
 {
-    let a = read(token);
-    match a {
-        Answer::Refused(number, place) => Where::Missing(number, place),
-        Answer::Accepted(_rows) => field_in(token, row as usize, field as usize),
-    }
+    read(token)?;
+    field_in(token, row as usize, field as usize)
 }
 
 // The part of the token that the field of a row occupies, none on refusal.
 pub fn view(token: &[u8], row: u32, field: u32) -> &[u8]
     ensures { result.now ≡ Rattle.format.specs.Views.view token.now row field }
 {
-    let w = field_at(token, row, field);
-    let Where::At(offset, length) = w else {
+    let Ok(span) = field_at(token, row, field) else {
         return &token[..0];
     };
-    let start = offset as usize;
-    let end = start + length as usize;
+    let start = span.offset as usize;
+    let end = start + span.length as usize;
     &token[start..end]
 }
 
 // Whether the view is of a field: 0, or the refusal.
-pub fn view_answer(token: &[u8], row: u32, field: u32) -> Answer
+pub fn view_answer(token: &[u8], row: u32, field: u32) -> Result<u32, Refusal>
     ensures { result ≡ Rattle.format.specs.Views.view_answer token.now row field }
 {
-    let w = field_at(token, row, field);
-    match w {
-        Where::Missing(number, place) => Answer::Refused(number, place),
-        Where::At(_offset, _length) => Answer::Accepted(0),
-    }
+    let _span = field_at(token, row, field)?;
+    Ok(0)
 }
 
-// The row that begins at a place, with the place of the next; the end at the token's length; 22 at any other place.
-pub fn step(token: &[u8], place: usize) -> Step
+// The row that begins at a place, with the place of the next; none at the token's length; 22 at any other place.
+pub fn step(token: &[u8], place: usize) -> Result<Option<RowStep>, Refusal>
     ensures { result ≡ step_at token.now place }
 {
-    let a = read(token);
-    match a {
-        Answer::Refused(number, at) => Step::Stopped(number, at),
-        Answer::Accepted(_rows) => step_in(token, place),
-    }
+    read(token)?;
+    step_in(token, place)
 }

@@ -18,8 +18,7 @@ use Rattle.format.specs.Reading.{Fault, refused, reading, answer}
 use Rattle.format.specs.Table.{Placed, after_header, placed}
 use Rattle.format.specs.Views.{step_at, place_after}
 use Rattle.format.specs.GivenNumbers.{number_of, row_answer}
-use Rattle.format.specs.declared.Step.{Step}
-use Rattle.format.specs.declared.Step.TheVariants.{Record, End, Stopped}
+use Rattle.format.specs.Answers.{Step, Record, End, Stopped}
 use Rattle.format.proofs.Elements.{there}
 use Rattle.format.proofs.Rows.{placed_count}
 use Rattle.format.proofs.Numbering.{fault_number}
@@ -27,20 +26,10 @@ use Rattle.format.proofs.GivenNumbers.{refused_told, first, Judged, judged, own_
 use Rattle.format.proofs.Walking.{walk_legal, first_place, step_next, step_at_row, step_at_end, step_refused}
 use Rattle.walker.specs.Walking.{step_after, Followed}
 use Rattle.walker.specs.declared.Walker.{Walker}
+use Rattle.walker.proofs.Laws.{behind_at, place_last}
 use Rattle.format.specs.Claims.{IsRow, walk_place}
 
 -- ---- the places that the steps lead to
-
--- The step after n steps is the one at the place that they lead to.
-behind_at : (bs : List ℕ) (at n : ℕ) → step_after bs at n ≡ step_at bs (walk_place n bs at)
-unfolding step_after
-behind_at bs at zero = refl
-behind_at bs at (suc n) = behind_at bs (place_after at (step_at bs at)) n
-
--- The last of n + 1 steps is the one after the first n.
-place_last : (bs : List ℕ) (at n : ℕ) → walk_place (suc n) bs at ≡ place_after (walk_place n bs at) (step_at bs (walk_place n bs at))
-place_last bs at zero = refl
-place_last bs at (suc n) = place_last bs (place_after at (step_at bs at)) n
 
 -- Before an element of a list comes another.
 one_before : (xs : List Placed) (k : ℕ) (y : Placed) → get_elem? xs (suc k) ≡ some y → (x : Placed) × (get_elem? xs k ≡ some x)

@@ -2,7 +2,7 @@
 use Rattle.std.specs.Prelude.{◌≡◌, List, ℕ, zero, suc}
 use Rattle.std.specs.Borrow.{Bor}
 use Rattle.format.specs.Views.{step_at, place_after}
-use Rattle.format.specs.declared.Step.{Step}
+use Rattle.format.specs.Answers.{Step}
 use Rattle.walker.specs.declared.Walker.{Walker}
 
 -- the step after n steps from a place, each taken where the one before leads

@@ -1,23 +1,33 @@
 -- The longer draft as bytes: lengths restated in it, and how long it is. Assumes nothing.
-use mathlib.Core.Path.{◌≡◌, ap, ◌∙◌}
-use mathlib.Core.List.{List, ◌++◌}
-use Prim.Native.Nat.{ℕ, suc, ◌+◌, ◌/◌, ◌%◌, ◌≤◌}
+use mathlib.Core.Path.{◌≡◌, sym, ap, ◌∙◌}
+use mathlib.Core.List.{List, [], ◌∷◌, ◌++◌, append_assoc}
+use Prim.Native.Nat.{ℕ, suc, ◌+◌, ◌-◌, ◌/◌, ◌%◌, ◌≤◌}
 use native.Mathlib.Omega.{arith}
 use lib.ListN.{length, take, drop, set, length-append, length-set}
-use lib.Seq.{length-take-le, set-append_left, lt-length-set}
+use lib.Seq.{sets, sets-eq, drop-drop, length-take-le, set-append_left, lt-length-set}
+use borrow.Rule.Slice.PartMut.{put_mid}
 use Rattle.format.specs.Reading.{stated}
-use Rattle.format.specs.Bytes.{big_endian}
 use Rattle.format.proofs.Changes.{restate}
-use Rattle.write_bytes.specs.Storing.{Stored}
 use Rattle.write_appended_part.specs.Appended.{Standing, grown}
 
 -- ---- another length in a part
 
--- A number stored after the first two bytes of a part is its new length.
-pub length_stored : {old new : List ℕ} {next : ℕ} (at n : ℕ) → Stored old (at + 2) (big_endian 2 n) new next → new ≡ restate at n old
-length_stored {old} at n s =
-    let e : suc (at + 2) ≡ at + 3 = omega arith in
-    s.bytes ∙ ap (λ (k : ℕ). set (set old (at + 2) (n / 256 % 256)) k (n % 256)) e
+-- Bytes written over those from one place to another.
+pub put_over : {v : List ℕ} (i e : ℕ) (bs w : List ℕ) → v ≡ w → i + length w ≡ e → e ≤ length bs → put_mid i (e - i) bs v ≡ sets bs i w
+put_over i e bs w same q h =
+    let k : i + (e - i) ≡ i + length w = omega arith in
+    ap (put_mid i (e - i) bs) same
+    ∙ ap (λ (y : List ℕ). take i bs ++ (w ++ y)) (drop-drop (e - i) i bs ∙ ap (λ (j : ℕ). drop j bs) k)
+    ∙ sym (append_assoc (take i bs) w (drop (i + length w) bs))
+    ∙ sym (sets-eq w bs i (omega arith))
+
+-- A number's two bytes over those after a part's first two are its new length.
+pub length_put : {v : List ℕ} (at n : ℕ) (bs : List ℕ) → v ≡ n / 256 % 256 ∷ n % 256 ∷ [] → at + 4 ≤ length bs
+    → put_mid (at + 2) (at + 4 - (at + 2)) bs v ≡ restate at n bs
+length_put at n bs e h =
+    let k : suc (at + 2) ≡ at + 3 = omega arith in
+    put_over (at + 2) (at + 4) bs (n / 256 % 256 ∷ n % 256 ∷ []) e (omega arith) h
+    ∙ ap (λ (j : ℕ). set (set bs (at + 2) (n / 256 % 256)) j (n % 256)) k
 
 -- It leaves the number of bytes as it was,
 pub restate_long : (at n : ℕ) (bs : List ℕ) → length (restate at n bs) ≡ length bs

@@ -1,4 +1,5 @@
 -- What an outcome says of the answer and of the lent draft. Assumes nothing.
+use Rattle.std.specs.Prelude.{Err}
 use mathlib.Core.Path.{◌≡◌, refl, sym, ap, ap₂, ◌∙◌}
 use mathlib.Core.Bool.{Bool, true, false, ◌&&◌, and-false}
 use mathlib.Core.List.{List, ◌++◌}
@@ -10,8 +11,9 @@ use borrow.Author.Tests.{le-leb, lt-leb}
 use Rattle.format.specs.Rules.{longest}
 use Rattle.format.specs.Reading.{Fault, Outcome, refused, found, fault, and_then, as_answer, stated, reading, row_count}
 use Rattle.format.specs.Writer.{write_answer, draft_after}
-use Rattle.format.specs.declared.Answer.{Answer}
-use Rattle.format.specs.declared.Answer.TheVariants.{Accepted, Refused}
+use Rattle.format.specs.Answers.{Answer, Accepted, Refused}
+use Rattle.format.specs.declared.Refusal.{Refusal}
+use Rattle.format.proofs.Answers.{same_number, same_place}
 use Rattle.format.proofs.Tests.{need_passed, need_failed, then_found, then_refused}
 use Rattle.write_appended_part.specs.Appended.{Standing, grown, appended}
 use Rattle.write_appended_part.proofs.Longer.{grown_long}
@@ -27,10 +29,7 @@ pub record RefusedBy {A : Type 0} (o : Outcome A) (n p : ℕ) : Type 0 where
 
 pub told_refused : {A : Type 0} {n p : ℕ} (count : A → ℕ) (o : Outcome A) → Refused n p ≡ as_answer count o → RefusedBy o n p
 unfolding as_answer
-told_refused {A} {n} {p} count (refused f) e =
-    let a : n ≡ f.number = cc in
-    let b : p ≡ f.place = cc in
-    record { cause = f; is = refl; number = a; place = b }
+told_refused count (refused f) e = record { cause = f; is = refl; number = same_number e; place = same_place e }
 told_refused count (found a) e = absurd (let y : ◌≡◌ {A = ℕ} 0 1 = cc in omega arith)
 
 -- and an accepted one from something found.
@@ -74,12 +73,12 @@ pub fits_in : (d : List ℕ) (k : ℕ) → stated d + k ≤ longest → stated d
 fits_in d k h l = ap₂ (λ (a b : Bool). a && b) (le-leb (stated d + k) longest h) (le-leb (stated d + k) (length d) l)
 
 -- 23.
-pub no_room : {n : ℕ} (d : List ℕ) (o : ℕ) (w : List ℕ) → n ≡ stated d → fitting d (length w) ≡ false
-    → (Refused 23 n ≡ write_answer (appended d o w)) × (d ≡ draft_after (appended d o w) d)
+pub no_room : {r : Refusal} {n : ℕ} (d : List ℕ) (o : ℕ) (w : List ℕ) → r ≡ record { number = 23; place = n } → n ≡ stated d
+    → fitting d (length w) ≡ false → (Err r ≡ write_answer (appended d o w)) × (d ≡ draft_after (appended d o w) d)
 unfolding appended
-no_room d o w e b =
+no_room d o w t e b =
     refused_written (appended d o w) d
-    (record { cause = fault 23 (stated d) (stated d); is = need_failed (fitting d (length w)) _ _ b; number = refl; place = e })
+    (record { cause = fault 23 (stated d) (stated d); is = need_failed (fitting d (length w)) _ _ b; number = ap (λ (r : Refusal). r.number) t; place = ap (λ (r : Refusal). r.place) t ∙ e })
 
 -- Where there is room, the longer draft is read.
 has_room : (d : List ℕ) (o : ℕ) (w : List ℕ) → stated d + length w ≤ longest → stated d + length w ≤ length d

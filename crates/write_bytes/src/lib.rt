@@ -1,67 +1,62 @@
-// Internal: bytes stored one after another in a lent buffer. Each call asks for room, and gives the place after what it
-// stored.
+// Internal: bytes put one after another into an array.
 #![tactic(auto)]
 
-ghost use Rattle.std.specs.Prelude.{◌≡◌, ◌∷◌, [], ◌+◌, ◌≤◌, ◌<◌, length};
-ghost use Rattle.std.proofs.lemmas.List.Edits.{sets};
-ghost use Rattle.format.specs.Bytes.{bytes_at, big_endian};
-ghost use Rattle.write_bytes.specs.Storing.{Stored};
+ghost use Rattle.std.specs.Prelude.{◌≡◌, ◌++◌, [], ◌+◌, ◌≤◌, length};
 
-// The bytes of a text, from the place `at` on.
-pub fn put(line: &mut [u8], at: usize, text: &[u8]) -> usize
-    requires { at + length text.now ≤ length line.old }
-    ensures { Stored line.old at text.now line.new result }
-{
-    let mut i = 0;
-    while i < text.len() {
-        line[at + i] = text[i];
-        i += 1;
+use std::marker::Model;
+
+// Bytes put one after another, in an array that has room for N.
+#[derive(Drop)]
+pub struct Buffer<const N: usize> {
+    bytes: [u8; N],
+    len: usize,
+}
+
+impl<const N: usize> Model for Buffer<N> {
+    ghost use Rattle.std.specs.Prelude.{◌≤◌, List, ℕ, take};
+
+    ghost Value = { List ℕ };
+
+    ghost view = { λ b. take b.len b.bytes };
+
+    ghost invariant = { λ b. b.len ≤ N };
+}
+
+impl<const N: usize> Buffer<N> {
+    // No bytes yet.
+    pub fn new() -> Buffer<N>
+        ensures { result ≡ [] }
+    {
+        Buffer {
+            bytes: [0; N],
+            len: 0,
+        }
     }
-    at + i
-}
 
-// Exchanges the bytes of a text with those of the line from the place `at` on.
-pub fn exchange(line: &mut [u8], at: usize, text: &mut [u8])
-    requires { at + length text.old ≤ length line.old }
-    ensures line { line.new ≡ sets line.old at text.old }
-    ensures text { text.new ≡ bytes_at line.old at (length text.old) }
-{
-    let mut i = 0;
-    while i < text.len() {
-        let old = line[at + i];
-        line[at + i] = text[i];
-        text[i] = old;
-        i += 1;
+    // The bytes of a text, after those that are there.
+    pub fn put(&mut self, text: &[u8])
+        requires { length self.old + length text.now ≤ N }
+        ensures bytes { self.new ≡ self.old ++ text.now }
+        ensures len { length self.new ≡ length self.old + length text.now }
+    {
+        let end = self.len + text.len();
+        let bytes = &mut self.bytes[..];
+        bytes[self.len..end].copy_from_slice(text);
+        self.len = end;
     }
-}
 
-// A number in two bytes, the higher first.
-pub fn put_two(line: &mut [u8], at: usize, n: usize) -> usize
-    requires { (at + 2 ≤ length line.old) × (n < 65536) }
-    ensures { Stored line.old at (big_endian 2 n) line.new result }
-{
-    line[at] = (n / 256) as u8;
-    line[at + 1] = (n % 256) as u8;
-    at + 2
-}
+    // The bytes so far.
+    pub fn as_slice(&self) -> &[u8]
+        ensures bytes { result.now ≡ self.now }
+        ensures fits { length result.now ≤ N }
+    {
+        &self.bytes[..self.len]
+    }
 
-// A number in four bytes, the highest first.
-pub fn put_four(line: &mut [u8], at: usize, n: u32) -> usize
-    requires { at + 4 ≤ length line.old }
-    ensures { Stored line.old at (big_endian 4 n) line.new result }
-{
-    line[at] = (n / 16777216) as u8;
-    line[at + 1] = (n / 65536 % 256) as u8;
-    line[at + 2] = (n / 256 % 256) as u8;
-    line[at + 3] = (n % 256) as u8;
-    at + 4
-}
-
-// One byte.
-pub fn put_one(line: &mut [u8], at: usize, x: u8) -> usize
-    requires { at + 1 ≤ length line.old }
-    ensures { Stored line.old at (x ∷ []) line.new result }
-{
-    line[at] = x;
-    at + 1
+    // The bytes so far, to be written over.
+    pub fn as_mut_slice(&mut self) -> &mut [u8]
+        ensures { result.now ≡ self.old }
+    {
+        &mut self.bytes[..self.len]
+    }
 }

@@ -1,8 +1,9 @@
 -- The answer of an addition that is judged before it is written, and the draft that it leaves. Assumes nothing.
-use mathlib.Core.Path.{◌≡◌, refl, sym, ap, ◌∙◌}
+use Rattle.std.specs.Prelude.{⊤, Ok, Err}
+use mathlib.Core.Path.{◌≡◌, sym, ap, ◌∙◌}
 use mathlib.Core.Bool.{true, false, not, ◌&&◌}
 use mathlib.Core.List.{List, [], ◌++◌}
-use Prim.Native.Nat.{ℕ, ◌+◌, ◌/◌, ◌%◌, ◌≤◌}
+use Prim.Native.Nat.{ℕ, ◌+◌, ◌≤◌}
 use native.Mathlib.Omega.{arith}
 use lib.Dec.{leb}
 use lib.ListN.{length, drop}
@@ -14,12 +15,13 @@ use Rattle.format.specs.Parts.{Kind, section_id, layout, external}
 use Rattle.format.specs.Rules.{longest, checks}
 use Rattle.format.specs.Reading.{found, and_then, as_answer, id_of, stated, reading, tested, located, part_slots}
 use Rattle.format.specs.Writer.{write_answer, draft_after, addition}
-use Rattle.format.specs.declared.Answer.TheVariants.{Accepted, Refused}
-use Rattle.format.proofs.Finding.{and_split, every_kind}
-use Rattle.format.proofs.Tests.{Kept, kept_located, needed, followed, found_inj, then_found, then_refused, tests_lead}
+use Rattle.format.specs.declared.Refusal.{Refusal}
+use Rattle.format.specs.Answers.{Accepted, Refused}
+use Rattle.format.proofs.Finding.{and_split}
+use Rattle.format.proofs.Tests.{Kept, kept_located, located_kept, needed, followed, found_inj, then_found, then_refused, tests_lead}
 use Rattle.format.proofs.Changes.{restate}
 use Rattle.read_sections.specs.Refusals.{first_refusal}
-use Rattle.read_sections.proofs.Laws.{numbered}
+use Rattle.read_sections.proofs.Laws.{all_hold}
 use Rattle.read_sections.proofs.Subs.{stops}
 use Rattle.write_last_part.specs.Tiling.{Reads}
 use Rattle.write_appended_part.specs.Appended.{grown}
@@ -85,14 +87,23 @@ module _ {k : Kind} {fs : Fields} {d w : List ℕ} {t : ℕ} (r : Ready k fs d w
       (record { cause = f.cause; is = adds ∙ then_refused _ f.is; number = f.number; place = f.place })
 
   -- a rule on its fields is broken
-  pub rule_broken : {f l : ℕ} → Accepted l ≡ as_answer (λ m. m) (place_for (section_id k) t d)
-      → f ≡ first_refusal (located (part_slots k w) (checks (external (id_of d)) k fs)) → (f ≡ 0 → ⊥)
-      → (Refused (f % 256) (l + f / 256) ≡ write_answer (addition k fs d)) × (d ≡ draft_after (addition k fs d) d)
-  rule_broken {f} {l} a e other =
-      let q = stops l (located (part_slots k w) (checks (external (id_of d)) k fs)) (found (grown d 0 w))
-      (every_kind (λ j. numbered (located (part_slots j w) (checks (external (id_of d)) j fs))) refl k) e other in
+  pub rule_broken : {f : Refusal} {l : ℕ} → Accepted l ≡ as_answer (λ m. m) (place_for (section_id k) t d)
+      → Err f ≡ first_refusal l (located (part_slots k w) (checks (external (id_of d)) k fs))
+      → (Err f ≡ write_answer (addition k fs d)) × (d ≡ draft_after (addition k fs d) d)
+  rule_broken {f} {l} a e =
+      let q = stops l (located (part_slots k w) (checks (external (id_of d)) k fs)) (found (grown d 0 w)) e in
       refused_written (addition k fs d) d
-      (record { cause = q.why; is = adds ∙ then_found _ (placed d (section_id k) t a).0 ∙ q.same; number = sym q.number; place = sym q.stands })
+      (record {
+        cause = q.why;
+        is = adds ∙ then_found _ (placed d (section_id k) t a).0 ∙ q.same;
+        number = ap (λ (r : Refusal). r.number) q.told;
+        place = ap (λ (r : Refusal). r.place) q.told;
+      })
+
+  -- none is
+  pub rules_kept : {u : ⊤} (l : ℕ) → Ok u ≡ first_refusal l (located (part_slots k w) (checks (external (id_of d)) k fs)) → Kept (checks (external (id_of d)) k fs)
+  rules_kept l e =
+      located_kept (part_slots k w) (checks (external (id_of d)) k fs) (all_hold l (located (part_slots k w) (checks (external (id_of d)) k fs)) e)
 
   -- it is written after the draft, whose header states the new length
   pub put_after : {l e : ℕ} {new : List ℕ} → Accepted l ≡ as_answer (λ m. m) (place_for (section_id k) t d) → Kept (checks (external (id_of d)) k fs)

@@ -1,9 +1,9 @@
 -- Stepping past parts with other ids. Assumes nothing.
 use mathlib.Core.Path.{◌≡◌, sym, ap, ◌∙◌, subst}
-use mathlib.Core.List.{List, []}
+use mathlib.Core.List.{List}
 use Prim.Native.Nat.{ℕ, ◌+◌, ◌≤◌, ◌<◌}
 use native.Mathlib.Omega.{arith}
-use lib.ListN.{length, drop, drop_of_length-le, length-drop}
+use lib.ListN.{length, drop, length-drop}
 use lib.Seq.{drop-drop}
 use Rattle.format.specs.Reading.{id_of, stated}
 use Rattle.write_last_part.specs.Tiling.{TiledTo, here, next, Tiled}
@@ -37,7 +37,3 @@ part_ends s p u t h =
     let f = tiled_first (tiled_on (passed_tiled t) u) (omega arith) in
     let b = f.1 in
     (f.0, omega arith)
-
--- All parts are passed.
-pub passed_all : {i : ℕ} {r : List ℕ} (s : List ℕ) (p : ℕ) → PassedTo i (drop p s) r → length s ≤ p → PassedTo i [] r
-passed_all {i} {r} s p t h = subst (λ (y : List ℕ). PassedTo i y r) (drop_of_length-le s {i = p} h) t

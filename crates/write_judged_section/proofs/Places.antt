@@ -1,4 +1,5 @@
 -- The place of a section that may stand only once, as the answer gives it. Assumes nothing.
+use Rattle.std.specs.Prelude.{Err}
 use mathlib.Core.Path.{◌≡◌, sym, ap, ap₂, ◌∙◌}
 use mathlib.Core.Bool.{true, false, not}
 use mathlib.Core.List.{List}
@@ -6,7 +7,8 @@ use Prim.Native.Nat.{ℕ, ◌+◌, ◌≤◌}
 use lib.ListN.{length}
 use Rattle.format.specs.Rules.{longest, Section}
 use Rattle.format.specs.Reading.{found, fault, need, as_answer, stated, reading, row_count}
-use Rattle.format.specs.declared.Answer.TheVariants.{Accepted, Refused}
+use Rattle.format.specs.declared.Refusal.{Refusal}
+use Rattle.format.specs.Answers.{Accepted, Refused}
 use Rattle.format.proofs.Tests.{need_passed, need_failed, then_found, then_refused}
 use Rattle.write_appended_part.proofs.Outcomes.{told_refused, fitting, fits_in}
 use Rattle.write_judged_section.specs.Placing.{id_among, place_for}
@@ -19,11 +21,12 @@ own_place d i k a =
     ap₂ Refused r.number r.place ∙ sym (ap (as_answer (λ (l : ℕ). l)) (then_refused _ r.is))
 
 -- 23.
-pub no_place : {l : ℕ} (d : List ℕ) (i k : ℕ) (ss : List Section) → reading false d ≡ found ss → l ≡ stated d → fitting d k ≡ false
-    → Refused 23 l ≡ as_answer (λ m. m) (place_for i k d)
+pub no_place : {r : Refusal} {l : ℕ} (d : List ℕ) (i k : ℕ) (ss : List Section) → r ≡ record { number = 23; place = l } → reading false d ≡ found ss
+    → l ≡ stated d → fitting d k ≡ false → Err r ≡ as_answer (λ m. m) (place_for i k d)
 unfolding place_for as_answer
-no_place d i k ss e q b =
-    ap (Refused 23) q ∙ sym (ap (as_answer (λ (m : ℕ). m)) (then_found _ e ∙ need_failed (fitting d k) _ _ b))
+no_place d i k ss t e q b =
+    ap (λ (r : Refusal). Err r) t
+    ∙ ap (Refused 23) q ∙ sym (ap (as_answer (λ (m : ℕ). m)) (then_found _ e ∙ need_failed (fitting d k) _ _ b))
 
 -- There is room: 9 where one stands before, else the place.
 roomy : (d : List ℕ) (i k : ℕ) (ss : List Section) → reading false d ≡ found ss → stated d + k ≤ longest → stated d + k ≤ length d
@@ -33,11 +36,12 @@ roomy d i k ss e h m =
     then_found _ e
     ∙ need_passed (fitting d k) _ _ (fits_in d k h m)
 
-pub stands_before : {l : ℕ} (d : List ℕ) (i k : ℕ) (ss : List Section) → reading false d ≡ found ss → l ≡ stated d → stated d + k ≤ longest
-    → stated d + k ≤ length d → true ≡ id_among i ss → Refused 9 l ≡ as_answer (λ m. m) (place_for i k d)
+pub stands_before : {r : Refusal} {l : ℕ} (d : List ℕ) (i k : ℕ) (ss : List Section) → r ≡ record { number = 9; place = l } → reading false d ≡ found ss
+    → l ≡ stated d → stated d + k ≤ longest → stated d + k ≤ length d → true ≡ id_among i ss → Err r ≡ as_answer (λ m. m) (place_for i k d)
 unfolding as_answer
-stands_before d i k ss e q h m t =
-    ap (Refused 9) q ∙ sym (ap (as_answer (λ (m : ℕ). m)) (roomy d i k ss e h m ∙ need_failed _ _ _ (ap not (sym t))))
+stands_before d i k ss t e q h m among =
+    ap (λ (r : Refusal). Err r) t
+    ∙ ap (Refused 9) q ∙ sym (ap (as_answer (λ (m : ℕ). m)) (roomy d i k ss e h m ∙ need_failed _ _ _ (ap not (sym among))))
 
 pub place_after : {l : ℕ} (d : List ℕ) (i k : ℕ) (ss : List Section) → reading false d ≡ found ss → l ≡ stated d → stated d + k ≤ longest
     → stated d + k ≤ length d → false ≡ id_among i ss → Accepted l ≡ as_answer (λ m. m) (place_for i k d)

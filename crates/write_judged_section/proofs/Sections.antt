@@ -8,7 +8,7 @@ use lib.Dec.{eqb}
 use lib.ListN.{length, take, drop, length-append}
 use lib.Seq.{drop_at}
 use borrow.Author.Tests.{eq-eqb, ne_eqb}
-use Rattle.format.specs.Bytes.{All, Bytes, number, bytes_at}
+use Rattle.format.specs.Bytes.{All, Bytes}
 use Rattle.format.specs.Parts.{section_id, external}
 use Rattle.format.specs.Rules.{Section}
 use Rattle.format.specs.Reading.{found, id_of, stated, reading}
@@ -17,17 +17,12 @@ use Rattle.format.proofs.Grouping.{all_split}
 use Rattle.format.proofs.Sound.{GoodSection}
 use Rattle.format.proofs.Accepted.{reading_sound}
 use Rattle.write_last_part.specs.Tiling.{TiledTo}
+use Rattle.write_appended_part.proofs.Restating.{id_front}
 use Rattle.format.proofs.Numbering.{stated_front}
 use Rattle.write_last_part.proofs.Tiling.{States, laid, passed_then, cut_at}
 use Rattle.write_last_part.proofs.LaidSections.{section_bytes, draft_laid}
 use Rattle.write_last_part.proofs.LaidSections.{section_id_is}
 use Rattle.write_judged_section.specs.Placing.{id_among, PassedTo, here, next, StandsIn}
-
--- Bytes after do not change the id.
-id_front : (b y : List ℕ) → 0 < length b → id_of (b ++ y) ≡ id_of b
-unfolding number bytes_at
-id_front [] y h = absurd (omega arith)
-id_front (p ∷ bs) y h = refl
 
 -- The first of sections laid one after another: its id.
 id_first : (x : Bool) (t : Section) (us : List Section) (r : List ℕ) → GoodSection false x t → 4 ≤ length (section_bytes t)

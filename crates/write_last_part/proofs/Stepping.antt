@@ -6,7 +6,7 @@ use native.Mathlib.Omega.{arith}
 use lib.ListN.{length, drop, length-drop}
 use lib.Seq.{drop-drop}
 use Rattle.format.specs.Reading.{stated}
-use Rattle.write_last_part.specs.Tiling.{TiledTo, here, Tiled, Twenties, LastAt}
+use Rattle.write_last_part.specs.Tiling.{TiledTo, here, Tiled, Twenties}
 use Rattle.write_last_part.proofs.Tiling.{tiled_more, tiled_through, tiled_on, tiled_first}
 
 -- The parts from `first` to p are passed, the last of them standing at `last`.
@@ -33,10 +33,11 @@ step {s} {first} {p} {n} f t h e a b =
       from = λ q. (f, omega arith, t, omega arith);
     }
 
--- One part more.
-pub stepped_more : {s : List ℕ} {first last p n : ℕ} → Stepped s first last p → p < length s → n ≡ stated (drop p s) → 4 ≤ n → n ≤ length s - p
-    → Stepped s first p (p + n)
-stepped_more w = step w.front w.tiled
+-- One part more, which is the last then.
+pub stepped_more : {s : List ℕ} {first last p q n : ℕ} → Stepped s first last p → p < length s → n ≡ stated (drop p s) → 4 ≤ n → n ≤ length s - p
+    → q ≡ p → Stepped s first q (q + n)
+stepped_more {s} {first} {last} {p} {q} {n} w h e a b same =
+    subst (λ (j : ℕ). Stepped s first j (j + n)) (sym same) (step w.front w.tiled h e a b)
 
 -- A part of 20 bytes,
 pub twenty_first : {s : List ℕ} {p n : ℕ} → n ≡ stated (drop p s) → n ≡ 20 → p < length s → n ≤ length s - p → Twenties s p p
@@ -57,12 +58,14 @@ twenty_more {s} {p} {q} w h e =
     }
 
 -- and all of them passed.
-pub stepped_twenties : {s : List ℕ} {first last p q : ℕ} → Stepped s first last p → Twenties s p q → Stepped s first q (q + 20)
-stepped_twenties {s} {first} {last} {p} {q} w t =
+pub stepped_twenties : {s : List ℕ} {first last p q r n : ℕ} → Stepped s first last p → Twenties s p q → n ≡ 20 → r ≡ q → Stepped s first r (r + n)
+stepped_twenties {s} {first} {last} {p} {q} {r} {n} w t twenty same =
     let f = w.front in
     let g = t.front in
     let i = t.inside in
-    step (omega arith) (tiled_through w.tiled t.tiled) (omega arith) (sym t.states) (omega arith) (omega arith)
+    let e = t.states in
+    subst (λ (j : ℕ). Stepped s first j (j + n)) (sym same)
+    (step (omega arith) (tiled_through w.tiled t.tiled) (omega arith) (omega arith) (omega arith) (omega arith))
 
 -- A part that does not end within the bytes: they are not tiled.
 pub stepped_broken : {s : List ℕ} {first last p : ℕ} → Stepped s first last p → p < length s
@@ -72,15 +75,3 @@ stepped_broken {s} {first} {last} {p} w h never u =
     let t = tiled_first (tiled_on w.tiled u) (omega arith) in
     let m = t.1 in
     never t.0 (omega arith)
-
--- At the end the last part is known.
-pub stepped_all : {s : List ℕ} {first last p : ℕ} → Stepped s first last p → length s ≤ p → (p ≡ first → ⊥) → LastAt s first last
-stepped_all {s} {first} {last} {p} w h other =
-    let f = w.front in
-    let i = w.inside in
-    let g = w.from (later other) in
-    let e = g.3 in
-    record { front = g.0; head = g.1; tiled = g.2; ends = omega arith }
-  where
-    later : (p ≡ first → ⊥) → first < p
-    later k = let f = w.front in omega arith

@@ -5,13 +5,13 @@ ghost use Rattle.std.specs.Prelude.{false, ◌≤◌, length};
 ghost use Rattle.format.specs.Rules.{longest};
 ghost use Rattle.write_last_part.specs.Tiling.{Twenties, LastOf, LastSection};
 
+use format::RULE_FIELDS;
 use read_fields::two;
 use read_token::header::header;
 
 // What stepping from part to part finds: where the last part begins, that there is none, or that the parts do not end
 // where the bytes do.
-#[derive(Drop)]
-#[derive(Clone, Copy)]
+#[derive(Clone, Copy, Debug, PartialEq, Eq)]
 pub enum Last {
     At(usize),
     Empty,
@@ -19,17 +19,16 @@ pub enum Last {
 }
 
 // The last of the parts of 20 bytes that follow each other from the place p on. Such are the rules without subsections, of
-// which a long draft has many: a step by a known number need not wait for the bytes that state it.
+// which a long draft has many: a step by a known number need not wait for the bytes that state it. Its near twin,
+// `after_bare_rules` of write_judged_section, asks for the id as well: one function for both would take what it asks for as a
+// closure, whose contract is no plainer.
 fn last_twenty(s: &[u8], p: usize) -> usize
     requires { Twenties s.now p p × (length s.now ≤ longest) }
     ensures { Twenties s.now p result }
 {
     let mut q = p;
-    while q + 40 <= s.len() {
-        if two(s, q + 22) != 20 {
-            return q;
-        }
-        q += 20;
+    while q + 2 * RULE_FIELDS <= s.len() && two(s, q + RULE_FIELDS + 2) == RULE_FIELDS {
+        q += RULE_FIELDS;
     }
     q
 }
@@ -41,6 +40,7 @@ pub fn last_part(s: &[u8], first: usize) -> Last
 {
     let mut last = first;
     let mut p = first;
+    // No iterator is plainer: a step is the length that the part states.
     while p < s.len() {
         if s.len() - p < 4 {
             return Last::Broken;
@@ -53,13 +53,12 @@ pub fn last_part(s: &[u8], first: usize) -> Last
         if s.len() - p < n {
             return Last::Broken;
         }
-        if n == 20 {
-            last = last_twenty(s, p);
-            p = last + 20;
-            continue;
-        }
-        last = p;
-        p += n;
+        last = if n == RULE_FIELDS {
+            last_twenty(s, p)
+        } else {
+            p
+        };
+        p = last + n;
     }
     if p == first {
         return Last::Empty;
@@ -71,10 +70,9 @@ pub fn last_part(s: &[u8], first: usize) -> Last
 pub fn last_section(draft: &[u8]) -> Last
     ensures { LastSection draft.now result }
 {
-    let f = header(draft, false);
-    if f != 0 {
+    let Ok(()) = header(draft, false) else {
         return Last::Broken;
-    }
+    };
     let n = two(draft, 2);
     last_part(&draft[..n], 8)
 }

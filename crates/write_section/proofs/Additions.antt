@@ -14,7 +14,7 @@ use Rattle.format.specs.Parts.{Kind, section_id, is_subsection, layout, Part, si
 use Rattle.format.specs.Rules.{longest, Section}
 use Rattle.format.specs.Reading.{Fault, Outcome, refused, found, fault, need, and_then, id_of, stated, reading, parts_of}
 use Rattle.format.specs.Writer.{write_answer, draft_after, longer, addition}
-use Rattle.format.specs.declared.Answer.{Answer}
+use Rattle.format.specs.Answers.{Answer}
 use Rattle.format.proofs.Finding.{section_id_pos}
 use Rattle.format.proofs.Unique.{size_any}
 use Rattle.format.proofs.Tests.{need_passed, need_failed}

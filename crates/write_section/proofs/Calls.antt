@@ -1,4 +1,5 @@
 -- The draft's own fault, and where an addition goes on after it. Assumes nothing.
+use Rattle.std.specs.Prelude.{Err}
 use mathlib.Core.Path.{◌≡◌, refl, sym, ap, ap₂, ◌∙◌}
 use mathlib.Core.Bool.{Bool, true, false, ◌&&◌}
 use mathlib.Core.List.{List, ◌++◌}
@@ -11,8 +12,9 @@ use borrow.Author.Tests.{leb-true}
 use Rattle.format.specs.Rules.{longest, Section}
 use Rattle.format.specs.Reading.{Fault, Outcome, refused, found, fault, need, and_then, as_answer, stated, header_checks, reading, row_count}
 use Rattle.format.specs.Writer.{write_answer, draft_after}
-use Rattle.format.specs.declared.Answer.{Answer}
-use Rattle.format.specs.declared.Answer.TheVariants.{Accepted, Refused}
+use Rattle.format.specs.declared.Refusal.{Refusal}
+use Rattle.format.specs.Answers.{Answer, Accepted, Refused}
+use Rattle.format.proofs.Answers.{same_number, same_place}
 use Rattle.format.proofs.Tests.{tests_passed, needed, followed, then_found, then_refused, Hold}
 use Rattle.format.proofs.Finding.{and_split}
 use Rattle.read_token.proofs.Headers.{lengths}
@@ -53,6 +55,11 @@ fault_else d n p a =
     let r = reads d a in
     (refused_written (refused_after d n p) d (record { cause = fault n p p; is = then_found _ r.1; number = refl; place = refl })).0
 
+-- What is told of a refusal made in the call.
+pub told_at : {a : Answer} {r : Refusal} {n p : ℕ} (d : List ℕ) → r ≡ record { number = n; place = p } → a ≡ write_answer (refused_after d r.number r.place)
+    → a ≡ write_answer (refused_after d n p)
+told_at d e a = a ∙ ap (λ (r : Refusal). write_answer (refused_after d r.number r.place)) e
+
 -- ---- the answer where a field does not fit
 
 pub unfit_fault : {n p : ℕ} (d : List ℕ) → Refused n p ≡ as_answer row_count (reading false d) → Refused n p ≡ write_answer (unfit d)
@@ -60,10 +67,11 @@ unfolding unfit
 unfit_fault d a = (fault_first d _ a).0
 
 -- 24.
-pub unfit_else : {n : ℕ} (d : List ℕ) → Reads d → n ≡ stated d → Refused 24 n ≡ write_answer (unfit d)
+pub unfit_else : {r : Refusal} {n : ℕ} (d : List ℕ) → Reads d → r ≡ record { number = 24; place = n } → n ≡ stated d → Err r ≡ write_answer (unfit d)
 unfolding unfit
-unfit_else d r e =
-    (refused_written (unfit d) d (record { cause = fault 24 (stated d) (stated d); is = then_found _ r.1; number = refl; place = e })).0
+unfit_else d w t e =
+    ap (λ (r : Refusal). Err r) t
+    ∙ (refused_written (unfit d) d (record { cause = fault 24 (stated d) (stated d); is = then_found _ w.1; number = refl; place = e })).0
 
 -- ---- a refusal that gives way to the draft's own fault
 
@@ -137,10 +145,10 @@ appended_refused {n} {p} d o w a other = go (leb (stated d + length w) longest) 
     go : (u v : Bool) (r : Outcome (List Section)) → leb (stated d + length w) longest ≡ u → reading false (grown d o w) ≡ r
         → Refused n p ≡ write_answer (need (u && v) (fault 23 (stated d) (stated d)) (and_then r (λ ts. found (grown d o w))))
         → (stated d + length w ≤ longest) × ((f : Fault) × ((reading false (grown d o w) ≡ refused f) × (p ≡ f.place)))
-    go true true (refused f) e q y = (leb-true (stated d + length w) longest e, (f, (q, cc)))
+    go true true (refused f) e q y = (leb-true (stated d + length w) longest e, (f, (q, same_place y)))
     go true true (found ts) e q y = absurd (let z : ◌≡◌ {A = ℕ} 0 1 = cc in omega arith)
-    go true false r e q y = absurd (other cc)
-    go false v r e q y = absurd (other cc)
+    go true false r e q y = absurd (other (same_number y))
+    go false v r e q y = absurd (other (same_number y))
 
 -- Where it comes so late that the draft reads, it is the answer.
 pub own_late : {n p : ℕ} {new : List ℕ} (d : List ℕ) (o : ℕ) (w : List ℕ) → Reads d

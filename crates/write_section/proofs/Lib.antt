@@ -4,4 +4,3 @@ pub mod Calls
 pub mod Refusals
 pub mod Alone
 pub mod Fields
-pub mod StoredParts

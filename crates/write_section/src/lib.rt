@@ -12,68 +12,57 @@ ghost use Rattle.write_last_part.specs.Tiling.{Tiled};
 ghost use Rattle.write_appended_part.specs.Appended.{appended};
 ghost use Rattle.write_section.specs.Adding.{unfit, refused_after, own_first, section_added};
 
-use format::Answer;
+use format::Refusal;
+use format::refusals::{NO_ROOM, UNFIT};
 use read_fields::two;
 use reading::draft::read_draft;
 use write_appended_part::append;
 use write_last_part::{Last, last_section};
 
 // The answer of a call that is refused: the draft's own fault, else the refusal.
-pub fn own_fault_or(draft: &[u8], number: u32, place: u32) -> Answer
-    ensures { result ≡ write_answer (refused_after draft.now number place) }
+pub fn own_fault_or(draft: &[u8], refusal: Refusal) -> Result<u32, Refusal>
+    ensures { result ≡ write_answer (refused_after draft.now refusal.number refusal.place) }
 {
-    let a = read_draft(draft);
-    match a {
-        Answer::Refused(own, at) => Answer::Refused(own, at),
-        Answer::Accepted(_rows) => Answer::Refused(number, place),
-    }
+    read_draft(draft)?;
+    Err(refusal)
 }
 
 // The answer where a lent field does not have its length: the draft's own fault, else 24.
-pub fn not_fitting(draft: &[u8]) -> Answer
+pub fn not_fitting(draft: &[u8]) -> Result<u32, Refusal>
     ensures { result ≡ write_answer (unfit draft.now) }
 {
-    let a = read_draft(draft);
-    match a {
-        Answer::Refused(number, place) => Answer::Refused(number, place),
-        Answer::Accepted(_rows) => Answer::Refused(24, two(draft, 2) as u32),
-    }
+    read_draft(draft)?;
+    Err(Refusal::at(UNFIT, two(draft, 2)))
 }
 
 // Puts a section after the draft, whose own fault comes before any other refusal. Where the longer draft is refused at the
 // added section, the draft reads, and is not read again.
-fn append_section(draft: &mut [u8], part: &mut [u8]) -> Answer
+fn append_section(draft: &mut [u8], part: &mut [u8]) -> Result<u32, Refusal>
     requires { Hold (header_checks false draft.old) × Tiled (drop 8 (take (stated draft.old) draft.old)) }
     ensures answer { result ≡ write_answer (own_first draft.old (appended draft.old 0 part.old)) }
     ensures draft { draft.new ≡ draft_after (own_first draft.old (appended draft.old 0 part.old)) draft.old }
 {
     let n = two(draft, 2);
-    let a = append(draft, 0, part);
-    match a {
-        Answer::Refused(number, at) => {
-            let no_room = number == 23;
-            if no_room {
-                return own_fault_or(draft, number, at);
-            }
-            if (at as usize) < n {
-                return own_fault_or(draft, number, at);
-            }
-            Answer::Refused(number, at)
-        }
-        Answer::Accepted(m) => Answer::Accepted(m),
+    let answer = append(draft, 0, part);
+    let Err(refusal) = answer else {
+        return answer;
+    };
+    let no_room = refusal.number == NO_ROOM;
+    if no_room || (refusal.place as usize) < n {
+        return own_fault_or(draft, refusal);
     }
+    answer
 }
 
 // Adds the bytes of a section. Where the draft's sections end where it does, and the longer draft reads or is refused no
 // earlier than at the added section, the draft reads: then only the longer one is read. Where they do not, the draft does not
 // read, and its reading gives its fault.
-pub fn add_section(draft: &mut [u8], part: &mut [u8]) -> Answer
+pub fn add_section(draft: &mut [u8], part: &mut [u8]) -> Result<u32, Refusal>
     ensures answer { result ≡ write_answer (section_added draft.old part.old) }
     ensures draft { draft.new ≡ draft_after (section_added draft.old part.old) draft.old }
     ensures bytes { Bytes draft.old }
 {
-    let last = last_section(draft);
-    if let Last::Broken = last {
+    if let Last::Broken = last_section(draft) {
         return read_draft(draft);
     }
     append_section(draft, part)

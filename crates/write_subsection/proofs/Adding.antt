@@ -138,9 +138,6 @@ last_standing d o h la =
     let same = v.same in
     record { least = k.least; most = k.most; there = k.within; head = omega arith; ends = omega arith; apart = inr la.front }
 
--- It begins before the draft's end, which is at most 3,500.
-pub last_below : (d : List ℕ) (o : ℕ) → Hold (header_checks false d) → LastAt (take (stated d) d) 8 o → o < stated d
-last_below d o h la = let v = last_standing d o h la in let e = v.head in omega arith
-
+-- It begins before the lent bytes end.
 pub last_inside : (d : List ℕ) (o : ℕ) → Hold (header_checks false d) → LastAt (take (stated d) d) 8 o → o < length d
 last_inside d o h la = let v = last_standing d o h la in let e = v.head in let t = v.there in omega arith

@@ -17,7 +17,7 @@ use Rattle.format.specs.Rules.{longest, check, checks, Section}
 use Rattle.format.specs.Reading.{Fault, Outcome, refused, found, and_then, id_of, stated, section_kind, part_in, part_slots, Test, located, kind_before, rule_before, field_checks, holds_subs, section_checks, section_rest, section, header_checks, reading}
 use Rattle.format.specs.Writer.{write_answer, draft_after}
 use Rattle.format.specs.Layout.{Fields}
-use Rattle.format.specs.declared.Answer.TheVariants.{Refused}
+use Rattle.format.specs.Answers.{Refused}
 use Rattle.format.specs.Slots.{least}
 use Rattle.format.proofs.Tests.{Hold, Kept, refused_not, tests_lead, hold_split, hold_join}
 use Rattle.format.proofs.Offsets.{Inner, fields_inner}
@@ -291,18 +291,6 @@ module _ (d w : List ℕ) (o first : ℕ) (b : Bytes d) (c : Bytes w) (l : LastO
   same_bytes a en s =
       let t = told_refused length (appended d o w) a in
       ap₂ (λ (n : ℕ) (y : List ℕ). take n y) en (s ∙ ap (λ (y : Outcome (List ℕ)). draft_after y d) t.is)
-
-  -- Its last section is there to be read.
-  pub last_asked : {number at n : ℕ} {new : List ℕ} → Refused number at ≡ write_answer (appended d o w) → n ≡ stated d → new ≡ draft_after (appended d o w) d
-      → (8 ≤ o) × (o ≤ length (take n new)) × (length (take n new) ≤ longest)
-  last_asked a en s =
-      let k = lengths false d l.header in
-      let ld = length-take-le (stated d) d k.within in
-      let le = ap length (same_bytes a en s) in
-      let f = l.fixed in
-      let g = l.ends in
-      let m = k.most in
-      (l.last.front, omega arith, omega arith)
 
   -- Where the refusal comes after the section's own fields, what is left of the draft's reading is that section, read alone.
   pub left : {number at n : ℕ} {new : List ℕ} → Refused number at ≡ write_answer (appended d o w) → (number ≡ 23 → ⊥) → first ≤ at → n ≡ stated d

@@ -1,21 +1,24 @@
 -- A section read at another place: its refusals move with it. Assumes nothing.
-use mathlib.Core.Path.{◌≡◌, refl, ap, ap₂, ◌∙◌}
+use mathlib.Core.Path.{◌≡◌, refl, sym, ap, ap₂, ◌∙◌}
 use mathlib.Core.Bool.{Bool, true, false, not, ◌||◌}
 use mathlib.Core.List.{List, [], ◌∷◌, ◌++◌}
 use mathlib.Core.Option.{Option, none, some}
 use Prim.Native.Nat.{ℕ, zero, suc, ◌+◌, ◌-◌, ◌≤◌}
 use native.Mathlib.Omega.{arith}
 use lib.Dec.{leb}
-use lib.ListN.{length, take, drop, replicate, length-drop}
+use lib.ListN.{length, get_or, take, drop, replicate, length-drop}
 use lib.Seq.{take_all, drop-drop}
 use Rattle.format.specs.Bytes.{number, bytes_at}
-use Rattle.format.specs.Parts.{Kind, token_parameters, same_kind, Part, size}
+use Rattle.format.specs.Parts.{external, Kind, token_parameters, same_kind, Part, size}
 use Rattle.format.specs.Rules.{Section, has, mask_covers, has_required}
-use Rattle.format.specs.Reading.{fault, Outcome, refused, found, need, and_then, Test, tested, stated, made_length, part_in}
+use Rattle.format.specs.Reading.{id_of, fault, Outcome, refused, found, need, and_then, Test, tested, stated, made_length, part_in}
 use Rattle.write_subsection.specs.LastSection.{moved}
 use Rattle.format.specs.Reading.{subsection_kind, subsection_checks, subsection, subsections, place_of, mask_offset, after_subsections, section_rest, sections, row_count, as_answer}
-use Rattle.format.specs.declared.Answer.TheVariants.{Accepted, Refused}
+use Rattle.format.specs.Answers.{Accepted, Refused}
+use Rattle.format.proofs.Answers.{same_number, same_place}
 use Rattle.format.proofs.Turns.{sections_from}
+use Rattle.read_token.specs.Progress.{sections_answer}
+use Rattle.read_token.proofs.Headers.{id_first}
 use Rattle.format.proofs.Numbering.{Early, Comes, Anything, sections_come}
 
 need_moved : {A : Type 0} (j : ℕ) (b : Bool) (n p i : ℕ) (rest : Outcome A) {p' i' : ℕ} {rest' : Outcome A} → p' ≡ p + j → i' ≡ i + j
@@ -88,10 +91,7 @@ rest_moved j full x k at r =
 
 pub moved_refused : {n p : ℕ} (j : ℕ) (o : Outcome (List Section)) → Refused n p ≡ as_answer row_count o → Refused n (p + j) ≡ as_answer row_count (moved j o)
 unfolding as_answer
-moved_refused {n} {p} j (refused f) e =
-    let a : n ≡ f.number = cc in
-    let b : p ≡ f.place = cc in
-    ap₂ (λ (x y : ℕ). Refused x (y + j)) a b
+moved_refused j (refused f) e = ap₂ (λ (x y : ℕ). Refused x (y + j)) (same_number e) (same_place e)
 moved_refused j (found ss) e = absurd (let y : ◌≡◌ {A = ℕ} 0 1 = cc in omega arith)
 
 pub moved_found : {n : ℕ} (j : ℕ) (o : Outcome (List Section)) → Accepted n ≡ as_answer row_count o → Accepted n ≡ as_answer row_count (moved j o)
@@ -106,12 +106,19 @@ refused_within {n} {p} x r e =
     go (sections (suc (length r)) false x [] 8 r) (sections_come (replicate 8 0 ++ r) (8 + length r) (suc (length r)) false x [] 8 r refl (omega arith) (omega arith)) e
   where
     go : (o : Outcome (List Section)) → Comes (Early false (replicate 8 0 ++ r) (8 + length r)) Anything o → Refused n p ≡ as_answer row_count o → p ≤ 8 + length r
-    go (refused f) c q = let a : p ≡ f.place = cc in let w = c.listed.within in omega arith
+    go (refused f) c q = let a = same_place q in let w = c.listed.within in omega arith
     go (found ss) c q = absurd (let y : ◌≡◌ {A = ℕ} 0 1 = cc in omega arith)
 
 -- The bytes from eight before a place on are, after eight of them, those from the place on.
-pub from_place : (s : List ℕ) (p : ℕ) → 8 ≤ p → p ≤ length s → drop 8 (take (length s - (p - 8)) (drop (p - 8) s)) ≡ drop p s
+from_place : (s : List ℕ) (p : ℕ) → 8 ≤ p → p ≤ length s → drop 8 (take (length s - (p - 8)) (drop (p - 8) s)) ≡ drop p s
 from_place s p h k =
     let l = length-drop (p - 8) s in
     let e : p - 8 + 8 ≡ p = omega arith in
     ap (drop 8) (take_all (length s - (p - 8)) (drop (p - 8) s) (omega arith)) ∙ drop-drop 8 (p - 8) s ∙ ap (λ (n : ℕ). drop n s) e
+
+-- Its sections read so are those of the draft from the place on.
+pub read_alone : (s : List ℕ) (p : ℕ) → 8 ≤ p → p ≤ length s
+    → sections_answer (take (length s - (p - 8)) (drop (p - 8) s)) false (external (get_or s 0 0))
+    ≡ as_answer row_count (sections_from false (external (id_of s)) [] 8 (drop p s))
+read_alone s p h k =
+    ap₂ (λ (i : ℕ) (y : List ℕ). as_answer row_count (sections_from false (external i) [] 8 y)) (sym (id_first s (omega arith))) (from_place s p h k)

@@ -15,7 +15,8 @@ ghost use Rattle.write_appended_part.specs.Appended.{appended};
 ghost use Rattle.write_section.specs.Adding.{own_first, subsection_added};
 ghost use Rattle.write_subsection.specs.LastSection.{holds_subsections, fixed_fields, LastOpen, moved};
 
-use format::{Answer, INFORMATION_FIELDS, RULE_FIELDS};
+use format::refusals::{NO_ROOM, NO_SECTION};
+use format::{INFORMATION_FIELDS, RULE_FIELDS, Refusal};
 use read_fields::two;
 use read_token::whole::sections_of;
 use reading::draft::read_draft;
@@ -28,56 +29,57 @@ fn fixed_fields(id: u8) -> usize
     ensures { result ≡ fixed_fields id }
 {
     if id == 0x12 {
-        return RULE_FIELDS;
+        RULE_FIELDS
+    } else {
+        INFORMATION_FIELDS
     }
-    INFORMATION_FIELDS
 }
 
 // The answer of the section of s at a place, the last one, read by itself as the first section of a draft: eight bytes before
 // it stand for the header, and a refusal's place is moved to where the section stands.
-fn last_alone(s: &[u8], place: usize) -> Answer
+fn last_alone(s: &[u8], place: usize) -> Result<u32, Refusal>
     requires { (8 ≤ place) × (place ≤ length s.now) × (length s.now ≤ longest) }
     ensures { result ≡ as_answer row_count (moved (place - 8) (sections_from false (external (id_of s.now)) [] 8 (drop place s.now))) }
 {
     let front = place - 8;
-    let a = sections_of(&s[front..], s[0] == 0x1E, false);
-    match a {
-        Answer::Refused(number, at) => Answer::Refused(number, at + front as u32),
-        Answer::Accepted(rows) => Answer::Accepted(rows),
-    }
+    let answer = sections_of(&s[front..], s[0] == 0x1E, false);
+    let Err(refusal) = answer else {
+        return answer;
+    };
+    Err(Refusal {
+        place: refusal.place + front as u32,
+        ..refusal
+    })
 }
 
 // Puts a subsection after the draft, whose own fault comes before any other refusal. Where the longer draft is refused after
 // the own fields of its last section, which end at first, the draft reads up to that section, and only this one is read again.
-fn append_subsection(draft: &mut [u8], place: usize, first: usize, part: &mut [u8]) -> Answer
+fn append_subsection(
+    draft: &mut [u8],
+    place: usize,
+    first: usize,
+    part: &mut [u8],
+) -> Result<u32, Refusal>
     requires { LastOpen draft.old place first }
     ensures answer { result ≡ write_answer (own_first draft.old (appended draft.old place part.old)) }
     ensures draft { draft.new ≡ draft_after (own_first draft.old (appended draft.old place part.old)) draft.old }
 {
     let n = two(draft, 2);
-    let a = append(draft, place, part);
-    match a {
-        Answer::Refused(number, at) => {
-            if number == 23 {
-                return own_fault_or(draft, number, at);
-            }
-            let earlier = (at as usize) < first;
-            if earlier {
-                return own_fault_or(draft, number, at);
-            }
-            let own = last_alone(&draft[..n], place);
-            match own {
-                Answer::Refused(f, p) => Answer::Refused(f, p),
-                Answer::Accepted(_rows) => Answer::Refused(number, at),
-            }
-        }
-        Answer::Accepted(m) => Answer::Accepted(m),
+    let answer = append(draft, place, part);
+    let Err(refusal) = answer else {
+        return answer;
+    };
+    let earlier = (refusal.place as usize) < first;
+    if refusal.number == NO_ROOM || earlier {
+        return own_fault_or(draft, refusal);
     }
+    last_alone(&draft[..n], place)?;
+    answer
 }
 
 // Adds the bytes of a subsection to the section at a place, the last one, where it has the given id. Where its subsections
 // end where it does too, and the longer draft reads, the draft reads.
-fn add_to_section(draft: &mut [u8], id: u8, place: usize, part: &mut [u8]) -> Answer
+fn add_to_section(draft: &mut [u8], id: u8, place: usize, part: &mut [u8]) -> Result<u32, Refusal>
     requires { (holds_subsections id ≡ true) × Hold (header_checks false draft.old) × LastAt (take (stated draft.old) draft.old) 8 place }
     ensures answer { result ≡ write_answer (subsection_added id draft.old part.old) }
     ensures draft { draft.new ≡ draft_after (subsection_added id draft.old part.old) draft.old }
@@ -85,30 +87,28 @@ fn add_to_section(draft: &mut [u8], id: u8, place: usize, part: &mut [u8]) -> An
     let n = two(draft, 2);
     let other = draft[place] != id;
     if other {
-        return own_fault_or(draft, 25, n as u32);
+        return own_fault_or(draft, Refusal::at(NO_SECTION, n));
     }
     let first = place + fixed_fields(id);
     if n < first {
         return read_draft(draft);
     }
-    let last = last_part(&draft[..n], first);
-    if let Last::Broken = last {
+    if let Last::Broken = last_part(&draft[..n], first) {
         return read_draft(draft);
     }
     append_subsection(draft, place, first, part)
 }
 
 // Adds the bytes of a subsection to the last section, which is to have the given id.
-pub fn add_subsection(draft: &mut [u8], id: u8, part: &mut [u8]) -> Answer
+pub fn add_subsection(draft: &mut [u8], id: u8, part: &mut [u8]) -> Result<u32, Refusal>
     requires { holds_subsections id ≡ true }
     ensures answer { result ≡ write_answer (subsection_added id draft.old part.old) }
     ensures draft { draft.new ≡ draft_after (subsection_added id draft.old part.old) draft.old }
     ensures bytes { Bytes draft.old }
 {
-    let last = last_section(draft);
-    match last {
+    match last_section(draft) {
         Last::Broken => read_draft(draft),
-        Last::Empty => own_fault_or(draft, 25, 8),
+        Last::Empty => own_fault_or(draft, Refusal::at(NO_SECTION, 8)),
         Last::At(place) => add_to_section(draft, id, place, part),
     }
 }

@@ -8,8 +8,7 @@ use lib.ListN.{take}
 use Rattle.format.specs.Rules.{Section}
 use Rattle.format.specs.Reading.{Outcome, refused, found, and_then, as_answer, stated, reading, row_count, answer}
 use Rattle.format.specs.Writer.{finish}
-use Rattle.format.specs.declared.Answer.{Answer}
-use Rattle.format.specs.declared.Answer.TheVariants.{Accepted, Refused}
+use Rattle.format.specs.Answers.{Answer, Accepted, Refused}
 use Rattle.write_last_part.specs.Tiling.{Reads}
 
 -- A refusal is told as such, whatever would be counted.

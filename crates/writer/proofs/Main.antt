@@ -9,7 +9,7 @@ use Rattle.format.specs.Parts.{Part, written, WrittenForm}
 use Rattle.format.specs.Legal.{Legal}
 use Rattle.format.specs.Reading.{Outcome, found}
 use Rattle.format.specs.Writer.{draft_after, start, addition, finish}
-use Rattle.format.specs.declared.Answer.TheVariants.{Accepted, Refused}
+use Rattle.format.specs.Answers.{Accepted, Refused}
 use Rattle.format.specs.Claims.{additions}
 use Rattle.format.proofs.Tests.{then_found}
 use Rattle.format.proofs.Grouping.{stateable}

@@ -4,8 +4,7 @@ use Rattle.std.specs.Prelude.{◌≡◌, List, [], ◌∷◌, ℕ}
 use Rattle.format.specs.Parts.{Part}
 use Rattle.format.specs.Reading.{Outcome}
 use Rattle.format.specs.Writer.{write_answer, draft_after, addition}
-use Rattle.format.specs.declared.Answer.{Answer}
-use Rattle.format.specs.declared.Answer.TheVariants.{Accepted, Refused}
+use Rattle.format.specs.Answers.{Answer, Accepted, Refused}
 
 -- a call of the writer: its answer r, and the draft e that it leaves of the draft d, for what it comes to
 pub record Call (o : Outcome (List ℕ)) (d : List ℕ) (r : Answer) (e : List ℕ) : Type 0 where

@@ -1,15 +1,17 @@
 -- `rule`: an id, flags and four single bytes after the section's head, added to the draft.
-use mathlib.Core.Path.{◌≡◌, refl, sym}
+use mathlib.Core.Path.{◌≡◌, refl, ap, ◌∙◌}
 use mathlib.Core.Bool.{true}
+use mathlib.Core.List.{List, append_assoc}
+use Prim.Native.Nat.{ℕ}
+use native.Mathlib.Nat.{mod-eq_of_lt}
 use native.Mathlib.Omega.{arith}
 use lib.ListN.{length}
-use lib.Seq.{length-take-le}
-use Rattle.format.specs.Parts.{rule}
+use Rattle.format.specs.Layout.{write}
+use Rattle.format.specs.Parts.{rule, layout}
 use Rattle.format.specs.Writer.{rule_fields}
-use Rattle.write_bytes.proofs.Stores.{stored_then}
-use Rattle.write_section.proofs.Additions.{unfit_added}
+use Rattle.write_bytes.proofs.Buffers.{four_bytes}
+use Rattle.write_section.proofs.Additions.{unfit_added, section_made}
 use Rattle.write_section.proofs.Fields.{fixed_fits, fixed_unfit}
-use Rattle.write_section.proofs.StoredParts.{one_stored, stored_last, section_stored}
 use Rattle.add_fixed_sections.proofs.rule.Goals as goal
 
 pub returns-then-rule_id-ne8 : goal.returns-then-rule_id-ne8
@@ -18,41 +20,15 @@ returns-then-rule_id-ne8 c =
     (rule_fields a.rule_id.now a.flags a.generated_length a.key_check a.symmetric_format a.asymmetric_format)
     a.draft.now (fixed_unfit (length a.rule_id.now) 8 true (λ e. omega arith)) c.not_fitting.ensures in record { answer = z.0; draft = z.1 }
 
-pub slice_bounds-add_section-end : goal.slice_bounds-add_section-end
-slice_bounds-add_section-end c =
-    let p = c.put_one-end in
-    sym (length-take-le p.result p.new.line (omega (arith, p.auto.line, p.ensures.place)))
-
 pub returns : goal.returns
 returns c =
-    let s = c in
-    let b₄ = s in
-    let b₃ = b₄ in
-    let b₂ = b₃ in
-    let b₁ = b₂ in
-    let f = b₁ in
-    let i = f in
-    let h = i in
-    let o = h in
-    let a = o.args in
-    let e : 20 ≡ b₄.put_one-end.result =
-    omega (
-      arith,
-      h.section_head-id_at.ensures.place,
-      i.put-flags_at.ensures.place,
-      f.put_four-length_at.ensures.place,
-      b₁.put_one-check_at.ensures.place,
-      b₂.put_one-symmetric_at.ensures.place,
-      b₃.put_one-asymmetric_at.ensures.place,
-      b₄.put_one-end.ensures.place,
-    ) in let z = section_stored rule
-    (rule_fields a.rule_id.now a.flags a.generated_length a.key_check a.symmetric_format a.asymmetric_format)
-    a.draft.now 20 refl (fixed_fits (length a.rule_id.now) 8 (omega arith) refl)
-    (stored_then h.section_head-id_at.ensures
-    (stored_then i.put-flags_at.ensures
-    (stored_then f.put_four-length_at.ensures
-    (stored_then (one_stored o.ranges.generated_length.fits b₁.put_one-check_at.ensures)
-    (stored_then (one_stored o.ranges.key_check.fits b₂.put_one-symmetric_at.ensures)
-    (stored_then (one_stored o.ranges.symmetric_format.fits b₃.put_one-asymmetric_at.ensures)
-    (stored_last (one_stored o.ranges.asymmetric_format.fits b₄.put_one-end.ensures))))))))
-    (omega arith) e (s.add_section.ensures.answer, (s.add_section.ensures.draft, s.add_section.ensures.bytes)) in record { answer = z.0; draft = z.1 }
+    let a = c.args in
+    let r = c.ranges in
+    let w : List ℕ = c.as_mut_slice.result.now in
+    let fs = rule_fields a.rule_id.now a.flags a.generated_length a.key_check a.symmetric_format a.asymmetric_format in
+    let e : w ≡ write 20 (layout rule) fs =
+    simp (c.as_mut_slice.ensures, c.put-5.ensures.bytes, c.put-4.ensures.bytes, c.put-3.ensures.bytes, c.put-2.ensures.bytes, c.put.ensures.bytes, c.new-part.ensures, c.section_head.ensures) (simp append_assoc (simp (c.to_be_bytes.ensures ∙ four_bytes a.flags, mod-eq_of_lt r.generated_length.fits, mod-eq_of_lt r.key_check.fits, mod-eq_of_lt r.symmetric_format.fits, mod-eq_of_lt r.asymmetric_format.fits))) in
+    let l : 20 ≡ length w = omega (arith, ap length c.as_mut_slice.ensures, ap length c.new-part.ensures) in
+    let z = section_made rule fs a.draft.now w 20 refl (fixed_fits (length a.rule_id.now) 8 (omega arith) refl) e l
+    (c.add_section.ensures.answer, (c.add_section.ensures.draft, c.add_section.ensures.bytes)) in
+    record { answer = z.0; draft = z.1 }

@@ -1,32 +1,25 @@
--- A label template, from its first character, the run after it, the star and the spaces. Assumes nothing.
-use mathlib.Core.Path.{sym, ap, ◌∙◌}
-use lib.ListN.{get_or}
-use Prim.Native.Nat.{◌+◌, ◌-◌}
+-- A label template: it has a length, and spaces follow. Assumes nothing.
+use Rattle.std.proofs.Common.{arith, ◌+◌, ◌-◌, ap, sym, ◌∙◌}
+use Rattle.std.proofs.lemmas.Slice.{between_to_end}
 use Rattle.format.specs.Bytes.{every, bytes_at}
-use Rattle.format.specs.Forms.{space}
-use Rattle.read_characters.proofs.Runs.{left_at}
-use Rattle.read_characters.proofs.Templates.{body, label_told, label_end}
+use Rattle.format.specs.Forms.{space, label_form}
+use Rattle.read_characters.proofs.Templates.{label_none, label_some}
+use Rattle.read_fields.proofs.Lists.{bytes_start}
 use Rattle.read_characters.proofs.label_form.Goals as goal
 
-pub returns-then-not-may_be_first : goal.returns-then-not-may_be_first
-returns-then-not-may_be_first c =
-    let a = c in
-    let k = c.character-first.ensures in
-    let f = c.may_be_first in
-    let b = get_or a.args.s.now a.args.i 0 in
-    sym (label_told a.args.s.now a.args.i a.requires.0 ∙ rw (← f.ensures b k, c.if-not-may_be_first.true))
+pub returns-then-n-ne0 : goal.returns-then-n-ne0
+unfolding bytes_at
+returns-then-n-ne0 c =
+    let s = c.args.s.now in
+    let i = c.args.i in
+    let field = bytes_at s i (i + 64 - i) in
+    c.only_spaces.ensures ∙ ap (every space) (between_to_end field c.template_length-n.result _ (omega arith))
+    ∙ sym (label_some field c.template_length-n.ensures.0 c.if-n-ne0.true) ∙ ap label_form (bytes_start s i 64)
 
-pub returns : goal.returns
-returns c =
-    let a = c in
-    let s = a.args.s.now in
-    let i = a.args.i in
-    let k = c.character-first.ensures in
-    let f = c.may_be_first in
-    let run = c.run_end-p.ensures in
-    let q = c.after_star-q.ensures in
-    let b = get_or s i 0 in
-    let bs = bytes_at s i (i + 64 - i) in
-    c.only_spaces.ensures
-    ∙ ap (every space) (sym (left_at s i (i + 64) (body bs) (label_end s i a.requires.0 k run.0 run.1 q.0) q.1 a.requires.0))
-    ∙ sym (label_told s i a.requires.0 ∙ rw (← f.ensures b k, c.if-not-may_be_first.false))
+pub returns-else-n-ne0 : goal.returns-else-n-ne0
+unfolding bytes_at
+returns-else-n-ne0 c =
+    let s = c.args.s.now in
+    let i = c.args.i in
+    let field = bytes_at s i (i + 64 - i) in
+    rw c.if-n-ne0.false (sym (label_none field c.template_length-n.ensures.0 c.if-n-ne0.false) ∙ ap label_form (bytes_start s i 64))

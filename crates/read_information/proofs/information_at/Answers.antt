@@ -1,65 +1,46 @@
 -- Section 14: its head, its fields, then its subsections.
+use Rattle.std.specs.Prelude.{⊤, Ok}
 use mathlib.Core.Path.{◌≡◌, refl, sym, ◌∙◌, ap}
-use mathlib.Core.Bool.{false}
+use mathlib.Core.Bool.{Bool, false}
 use mathlib.Core.List.{List}
-use Prim.Native.Nat.{ℕ, ◌+◌, ◌-◌, ◌≤◌}
+use Prim.Native.Nat.{ℕ}
 use native.Mathlib.Omega.{arith}
-use lib.ListN.{length, drop}
-use borrow.Author.Rules.{rules}
+use lib.ListN.{drop}
 use Rattle.format.specs.Parts.{information}
-use Rattle.format.specs.Reading.{Test, field_checks, section_checks, as_answer, section_kind, stated}
-use Rattle.read_sections.specs.Refusals.{section_rows}
+use Rattle.format.specs.Reading.{field_checks, section_checks, as_answer, section_kind}
+use Rattle.format.proofs.Answers.{passed_up}
+use Rattle.read_sections.specs.Refusals.{first_refusal, head_checks, section_rows}
 use Rattle.read_sections.proofs.Heads.{section_stops, section_goes}
-use Rattle.read_sections.proofs.Laws.{passed, none_left, Made, made, section_head_is, head_room, number_at}
-use Rattle.std.proofs.Common.{Bool}
+use Rattle.read_sections.proofs.Laws.{passed, none_left, Made, made, section_head_is, head_room}
 use Rattle.read_information.proofs.information_at.Goals as goal
 
--- its tests; that no rule has its Rule ID says nothing here
-abbrev Tests : Bool → Bool → ℕ → List ℕ → List Test
-Tests external seen p s = section_checks external information seen false (drop p s)
+-- the tests of its fields come after its head and its kind's, which passes; that no rule has its Rule ID says nothing here
+fields_made : {u : ⊤} (x seen : Bool) (p : ℕ) (s : List ℕ) → Ok u ≡ first_refusal p (head_checks 10 seen s)
+    → let cs = section_checks x information seen false s in Made p (field_checks x information s) cs (drop 6 cs)
+fields_made x seen p s h = made (field_checks x information s) _ (passed ((section_head_is 10 _ _ _).left h) refl)
 
-pub returns-then-h-ne0 : goal.returns-then-h-ne0
-returns-then-h-ne0 c before a =
-    let head : Made c.section_head-h.result (Tests c.args.external c.args.seen c.args.p c.args.s.now) (drop 3 (Tests c.args.external c.args.seen c.args.p c.args.s.now)) = section_head_is 10 _ _ _ c.section_head-h.ensures in
-    let b = c in
-    c.refused.ensures
-    ∙ section_stops _ _ information before _ _ b.requires.0 (ap section_kind b.requires.2) a refl ((head).stop c.if-h-ne0.true) c.if-h-ne0.true
+pub returns-in_err-section_head : goal.returns-in_err-section_head
+returns-in_err-section_head c before a =
+    passed_up c.from_residual.ensures
+    ∙ section_stops _ _ information before _ _ (omega (arith, c.args.part.four, c.args.part.here)) (ap section_kind c.requires) a refl
+    ((section_head_is 10 _ _ _).stop c.in_err-section_head.ensures)
 
-pub information_fields-f-requires : goal.information_fields-f-requires
-information_fields-f-requires c =
-    let room : let r = drop c.args.p c.args.s.now in (10 ≤ stated r) × (stated r ≤ length c.args.s.now - c.args.p) = head_room 10 _ c.args.s.now c.args.p c.section_head-h.ensures c.if-h-ne0.false in
-    let m = room in (omega arith, search rules)
+pub information_fields-requires : goal.information_fields-requires
+information_fields-requires c = let m = head_room c.args.part.place 10 _ c.args.part.bytes.now c.in_ok-section_head.ensures in omega (arith, m)
 
-pub returns-then-f-ne0 : goal.returns-then-f-ne0
-returns-then-f-ne0 c before a =
-    let head : Made c.section_head-h.result (Tests c.args.external c.args.seen c.args.p c.args.s.now) (drop 3 (Tests c.args.external c.args.seen c.args.p c.args.s.now)) = section_head_is 10 _ _ _ c.section_head-h.ensures in
-    let fields : let b = c in Made c.information_fields-f.result (Tests c.args.external c.args.seen c.args.p c.args.s.now) (drop 6 (Tests c.args.external c.args.seen c.args.p c.args.s.now)) =
-    let b = c in
-    made (field_checks b.args.external information (drop b.args.p b.args.s.now)) _ (passed ((head).left c.if-h-ne0.false) refl) refl (c.information_fields-f.ensures false) in
-    let b = c in
-    c.refused-then-f-ne0.ensures
-    ∙ section_stops _ _ information before _ _ b.requires.0 (ap section_kind b.requires.2) a refl ((fields).stop c.if-f-ne0.true) c.if-f-ne0.true
-
-pub overflow_add-e : goal.overflow_add-e
-overflow_add-e c =
-    let room : let r = drop c.args.p c.args.s.now in (10 ≤ stated r) × (stated r ≤ length c.args.s.now - c.args.p) = head_room 10 _ c.args.s.now c.args.p c.section_head-h.ensures c.if-h-ne0.false in
-    let length_read : c.two.result ≡ stated (drop c.args.p c.args.s.now) = number_at _ _ 2 2 c.two.ensures.0 in
-    let m = room in let l = length_read in omega arith
+pub returns-in_err-information_fields : goal.returns-in_err-information_fields
+returns-in_err-information_fields c before a =
+    passed_up c.from_residual-in_err-information_fields.ensures
+    ∙ section_stops _ _ information before _ _ (omega (arith, c.args.part.four, c.args.part.here)) (ap section_kind c.requires) a refl
+    ((fields_made c.args.external _ _ _ c.in_ok-section_head.ensures).stop (c.in_err-information_fields.ensures false))
 
 pub information_subs-requires : goal.information_subs-requires
-information_subs-requires c =
-    let room : let r = drop c.args.p c.args.s.now in (10 ≤ stated r) × (stated r ≤ length c.args.s.now - c.args.p) = head_room 10 _ c.args.s.now c.args.p c.section_head-h.ensures c.if-h-ne0.false in
-    let length_read : c.two.result ≡ stated (drop c.args.p c.args.s.now) = number_at _ _ 2 2 c.two.ensures.0 in
-    let m = room in
-    let l = length_read in
-    (omega arith, omega arith, search rules, ap (λ (n : ℕ). c.args.p + n) l)
+information_subs-requires c = head_room c.args.part.place 10 _ c.args.part.bytes.now c.in_ok-section_head.ensures
 
 pub returns : goal.returns
 returns c before a =
-    let head : Made c.section_head-h.result (Tests c.args.external c.args.seen c.args.p c.args.s.now) (drop 3 (Tests c.args.external c.args.seen c.args.p c.args.s.now)) = section_head_is 10 _ _ _ c.section_head-h.ensures in
-    let fields : let b = c in Made c.information_fields-f.result (Tests c.args.external c.args.seen c.args.p c.args.s.now) (drop 6 (Tests c.args.external c.args.seen c.args.p c.args.s.now)) =
-    let b = c in
-    made (field_checks b.args.external information (drop b.args.p b.args.s.now)) _ (passed ((head).left c.if-h-ne0.false) refl) refl (c.information_fields-f.ensures false) in
-    let b = c in
     c.information_subs.ensures
-    ∙ sym (ap (as_answer section_rows) (section_goes _ _ information before _ _ b.requires.0 (ap section_kind b.requires.2) a refl (none_left (passed ((fields).left c.if-f-ne0.false) refl))))
+    ∙ sym
+    (ap (as_answer section_rows)
+    (section_goes _ _ information before _ _ (omega (arith, c.args.part.four, c.args.part.here)) (ap section_kind c.requires) a refl
+    (none_left (passed ((fields_made c.args.external _ _ _ c.in_ok-section_head.ensures).left (c.in_ok-information_fields.ensures false)) refl))))

@@ -3,8 +3,8 @@ use Prim.Native.Nat.{◌-◌}
 use Rattle.read_information.specs.Loops.{InformationRead}
 use Rattle.read_information.proofs.information_subs.Given as goal
 
-abbrev pub invariant-loop-q : goal.invariant-loop-q
-invariant-loop-q l = InformationRead l.s l.p l.e l.external l.q l.n l.protected l.dated
+abbrev pub invariant-loop-at : goal.invariant-loop-at
+invariant-loop-at l = InformationRead l.section.bytes.now l.section.place l.end l.external l.at l.rows l.protected l.dated
 
-abbrev pub decreases-loop-q : goal.decreases-loop-q
-decreases-loop-q l = l.e - l.q
+abbrev pub decreases-loop-at : goal.decreases-loop-at
+decreases-loop-at l = l.end - l.at

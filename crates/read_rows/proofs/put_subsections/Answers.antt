@@ -4,17 +4,11 @@ use native.Mathlib.Omega.{arith}
 use Rattle.read_rows.proofs.Steps.{sub_inside, sub_turn, subs_end}
 use Rattle.read_rows.proofs.put_subsections.Goals as goal
 
-pub loop-q-init : goal.loop-q-init
-loop-q-init c = (c.requires, (λ t₀ rules i w. w), refl)
-
 pub two-length-requires : goal.two-length-requires
 two-length-requires c = omega (arith, sub_inside c.loop-q.invariant.0.within c.loop-q-test.true)
 
 pub two-requires : goal.two-requires
 two-requires c = omega (arith, sub_inside c.loop-q.invariant.0.within c.loop-q-test.true)
-
-pub put_row-requires : goal.put_row-requires
-put_row-requires c = (sub_inside c.loop-q.invariant.0.within c.loop-q-test.true).4
 
 pub loop-q-smaller : goal.loop-q-smaller
 loop-q-smaller c =
@@ -34,9 +28,6 @@ loop-q-preserved c =
       (λ t₀ rules i x. (sub_turn (l.invariant.1 t₀ rules i x) c.loop-q-test.true c.two-length.ensures.0 c.two.ensures.0 c.put_row.ensures).1),
       w.2 ∙ l.invariant.2,
     )
-
-pub shape_of-table : goal.shape_of-table
-shape_of-table c = c.loop-q.invariant.2
 
 pub returns : goal.returns
 returns c t₀ rules i w = subs_end (c.loop-q.invariant.1 t₀ rules i w) c.loop-q-test.false

@@ -5,5 +5,5 @@ use Rattle.read_rows.proofs.rule_in.Goals as goal
 pub returns-then-id-eq18 : goal.returns-then-id-eq18
 returns-then-id-eq18 c = in_rule c.args.rules c.if-id-eq18.true
 
-pub returns : goal.returns
-returns c = in_no_rule c.args.id c.args.rules c.if-id-eq18.false
+pub returns-else-id-eq18 : goal.returns-else-id-eq18
+returns-else-id-eq18 c = in_no_rule c.args.id c.args.rules c.if-id-eq18.false

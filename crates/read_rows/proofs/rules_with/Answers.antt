@@ -5,5 +5,5 @@ use Rattle.read_rows.proofs.rules_with.Goals as goal
 pub returns-then-id-eq18 : goal.returns-then-id-eq18
 returns-then-id-eq18 c = one_rule_more c.args.rules c.if-id-eq18.true
 
-pub returns : goal.returns
-returns c = no_rule_more c.args.id c.args.rules c.if-id-eq18.false
+pub returns-else-id-eq18 : goal.returns-else-id-eq18
+returns-else-id-eq18 c = no_rule_more c.args.id c.args.rules c.if-id-eq18.false

@@ -1,14 +1,13 @@
 -- Where the field lies, as an answer.
-use mathlib.Core.Path.{sym, ap, ◌∙◌}
+use mathlib.Core.Path.{ap, ◌∙◌}
 use Rattle.format.specs.Views.{whether_there, view_answer}
+use Rattle.format.proofs.Answers.{passed_up}
 use Rattle.views.proofs.view_answer.Goals as goal
 
-pub returns-in-Missing : goal.returns-in-Missing
+pub returns-in_err-_span : goal.returns-in_err-_span
 unfolding view_answer
-returns-in-Missing c =
-    ap whether_there (sym c.in-Missing.is ∙ c.field_at-w.ensures)
+returns-in_err-_span c = passed_up c.from_residual.ensures ∙ ap whether_there c.in_err-_span.ensures
 
-pub returns-in-At : goal.returns-in-At
+pub returns : goal.returns
 unfolding view_answer
-returns-in-At c =
-    ap whether_there (sym c.in-At.is ∙ c.field_at-w.ensures)
+returns c = ap whether_there c.in_ok-_span.ensures

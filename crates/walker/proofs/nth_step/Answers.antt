@@ -1,40 +1,40 @@
--- The steps by the reader are those of the walk. All that the proof knows of `start`, `next` and `goes_on` is what each
--- ensures.
-use mathlib.Core.Path.{sym, ap, ◌∙◌}
+-- The steps by the reader are those of the walk. All that the proof knows of `start` and `next` is what each ensures.
+use mathlib.Core.Path.{◌≡◌, sym, ap, ◌∙◌}
 use mathlib.Core.List.{List}
-use Prim.Native.Nat.{ℕ}
+use Prim.Native.Nat.{ℕ, suc, ◌+◌}
 use native.Mathlib.Omega.{arith}
+use borrow.Author.Rules.{rules}
 use denote.Ref.{Bor}
-use Rattle.format.specs.Views.{step_at}
-use Rattle.walker.proofs.Laws.{some_left, begins, follows, ends}
+use Rattle.format.specs.Views.{place_after}
+use Rattle.format.specs.Claims.{walk_place}
+use Rattle.walker.specs.Walking.{step_after}
+use Rattle.walker.proofs.Laws.{stays, taken}
 use Rattle.walker.proofs.nth_step.Goals as goal
 
-pub loop-s-init : goal.loop-s-init
-loop-s-init c =
+pub loop-init : goal.loop-init
+loop-init c =
     let a = c.start-w.ensures in
     let b = c.next-s.ensures in
-    let t = ap (λ (r : Bor (List ℕ)). r.now) a.0 in (
-      ap (λ (r : Bor (List ℕ)). r.now) b.1.0 ∙ t,
-      begins a.1 (b.0 ∙ ap (λ (l : List ℕ). step_at l c.start-w.result.place) t) b.1.1,
-    )
+    let held = ap (λ (r : Bor (List ℕ)). r.now) a.0 in
+    let t = taken c.args.token.now 0 held a.1 b.0 b.1.1 in
+    record { held = ap (λ (r : Bor (List ℕ)). r.now) b.1.0 ∙ held; step = t.0; place = t.1 }
 
-pub overflow_sub-left : goal.overflow_sub-left
-overflow_sub-left c =
-    let h = some_left c.loop-s.s c.loop-s.left (sym c.goes_on.ensures ∙ c.loop-s-test.true) in
-    omega arith
+pub loop-preserved : goal.loop-preserved
+loop-preserved c =
+    let i = c.loop.invariant in
+    let b = c.next-s-in-loop.ensures in
+    let n : suc c.loop.counter ≡ c.loop.counter + 1 = omega arith in
+    let t = taken c.args.token.now (c.loop.counter + 1) i.held (i.place ∙ ap (λ k. walk_place k c.args.token.now 8) n) b.0 b.1.1 in
+    record { held = ap (λ (r : Bor (List ℕ)). r.now) b.1.0 ∙ i.held; step = t.0; place = t.1 }
 
-pub loop-s-smaller : goal.loop-s-smaller
-loop-s-smaller c =
-    let h = some_left c.loop-s.s c.loop-s.left (sym c.goes_on.ensures ∙ c.loop-s-test.true) in
-    omega arith
+pub returns-after-loop : goal.returns-after-loop
+returns-after-loop c =
+    let e : c.loop.counter ≡ c.args.n = omega arith in
+    c.loop.invariant.step ∙ ap (step_after c.args.token.now 8) e
 
-pub loop-s-preserved : goal.loop-s-preserved
-loop-s-preserved c =
-    let i = c.loop-s.invariant in
-    let b = c.next-s-in-loop-s.ensures in (
-      ap (λ (r : Bor (List ℕ)). r.now) b.1.0 ∙ i.0,
-      follows i.1 (sym c.goes_on.ensures ∙ c.loop-s-test.true) (b.0 ∙ ap (λ (l : List ℕ). step_at l c.loop-s.w.place) i.0) b.1.1,
-    )
+-- At the end, and at a refusal.
+pub returns-in_default : goal.returns-in_default
+returns-in_default c = stays c.args.token.now 8 _ _ c.loop.invariant.step (λ p. search rules) (omega arith)
 
-pub returns : goal.returns
-returns c = ends c.loop-s.invariant.1 (sym c.goes_on.ensures ∙ c.loop-s-test.false)
+pub returns-in_default-2 : goal.returns-in_default-2
+returns-in_default-2 c = stays c.args.token.now 8 _ _ c.loop.invariant.step (λ p. ap (place_after p) (sym c.in_default.is)) (omega arith)

@@ -1,10 +1,13 @@
--- The reader holds the bytes passed, and its last step is one of the walk.
+-- The reader holds the bytes passed; its last step is the one after as many as were counted, and its place the one behind that.
 use mathlib.Core.Path.{◌≡◌}
-use Rattle.walker.proofs.Laws.{Turn}
+use Prim.Native.Nat.{suc}
+use Rattle.format.specs.Claims.{walk_place}
+use Rattle.walker.specs.Walking.{step_after}
 use Rattle.walker.proofs.nth_step.Given as goal
 
-abbrev pub invariant-loop-s : goal.invariant-loop-s
-invariant-loop-s l = (l.w.token.now ≡ l.token) × Turn l.token l.n l.w.place l.s l.left
-
-abbrev pub decreases-loop-s : goal.decreases-loop-s
-decreases-loop-s l = l.left
+abbrev pub invariant-loop : goal.invariant-loop
+invariant-loop l = record {
+  held : l.w.token.now ≡ l.token;
+  step : l.s ≡ step_after l.token 8 l.counter;
+  place : l.w.place ≡ walk_place (suc l.counter) l.token 8;
+}

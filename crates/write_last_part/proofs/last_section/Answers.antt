@@ -1,5 +1,5 @@
 -- The header, then the loop over the sections.
-use mathlib.Core.Path.{sym, subst}
+use mathlib.Core.Path.{sym, subst, ◌∙◌}
 use mathlib.Core.Bool.{false}
 use Prim.Native.Nat.{ℕ}
 use native.Mathlib.Omega.{arith}
@@ -11,32 +11,28 @@ use Rattle.write_last_part.specs.Tiling.{LastOf}
 use Rattle.write_last_part.proofs.Whole.{header_unread, section_last}
 use Rattle.write_last_part.proofs.last_section.Goals as goal
 
-pub returns-then-f-ne0 : goal.returns-then-f-ne0
-returns-then-f-ne0 c = header_unread c.args.draft.now c.header-f.ensures c.if-f-ne0.true
+pub returns-in_default : goal.returns-in_default
+returns-in_default c = header_unread c.args.draft.now (sym c.in_default.is ∙ c.header.ensures)
 
 pub two-n-requires : goal.two-n-requires
-two-n-requires c =
-    let l = header_lengths false c.args.draft.now c.header-f.ensures c.if-f-ne0.false in
-    omega (arith, l.front)
+two-n-requires c = let l = header_lengths false c.args.draft.now c.in-Ok.ensures in omega arith
 
 pub slice_bounds-last_part-end : goal.slice_bounds-last_part-end
 slice_bounds-last_part-end c =
     let d = c.args.draft.now in
-    let l = header_lengths false d c.header-f.ensures c.if-f-ne0.false in
-    sym (length-take-le _ d (omega (arith, l.within, c.two-n.ensures.0)))
+    let l = header_lengths false d c.in-Ok.ensures in
+    sym (length-take-le _ d (omega (arith, c.two-n.ensures.0)))
 
 pub last_part-requires : goal.last_part-requires
 last_part-requires c =
     let d = c.args.draft.now in
-    let l = header_lengths false d c.header-f.ensures c.if-f-ne0.false in
+    let l = header_lengths false d c.in-Ok.ensures in
     let n = c.two-n.ensures.0 in
-    let m = length-take-le c.two-n.result d (omega (arith, l.within, n)) in
-    (omega (arith, m, n, l.least), omega (arith, m, n, l.most))
+    let m = length-take-le c.two-n.result d (omega arith) in
+    (omega arith, omega (arith, l.most))
 
 pub returns : goal.returns
 returns c =
-    let s = c in
-    let d = s.args.draft.now in
-    section_last d c.last_part.result (bytes_of d (λ k. (c.shared_slice_known-1.given k).fits))
-    c.header-f.ensures c.if-f-ne0.false
+    let d = c.args.draft.now in
+    section_last d c.last_part.result (bytes_of d (λ k. (c.type_inv.draft k).fits)) c.in-Ok.ensures
     (subst (λ (n : ℕ). LastOf (take n d) 8 c.last_part.result) c.two-n.ensures.0 c.last_part.ensures)

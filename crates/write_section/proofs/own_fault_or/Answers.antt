@@ -1,14 +1,11 @@
 -- The draft's own fault, else the refusal.
-use mathlib.Core.Path.{sym, ◌∙◌}
+use mathlib.Core.Path.{◌∙◌}
+use Rattle.format.proofs.Answers.{passed_up}
 use Rattle.write_section.proofs.Calls.{fault_first, fault_else}
 use Rattle.write_section.proofs.own_fault_or.Goals as goal
 
-pub returns-in-Refused : goal.returns-in-Refused
-returns-in-Refused c =
-    let a = c.args in
-    (fault_first a.draft.now _ (sym c.in-Refused.is ∙ c.read_draft-a.ensures)).0
+pub returns-in_err-read_draft : goal.returns-in_err-read_draft
+returns-in_err-read_draft c = passed_up c.from_residual.ensures ∙ (fault_first c.args.draft.now _ c.in_err-read_draft.ensures).0
 
-pub returns-in-Accepted : goal.returns-in-Accepted
-returns-in-Accepted c =
-    let a = c.args in
-    fault_else a.draft.now a.number a.place (sym c.in-Accepted.is ∙ c.read_draft-a.ensures)
+pub returns : goal.returns
+returns c = let r = c.args.refusal in fault_else c.args.draft.now r.number r.place c.in_ok-read_draft.ensures

@@ -2,35 +2,29 @@
 use mathlib.Core.Path.{sym, ◌∙◌}
 use native.Mathlib.Omega.{arith}
 use lib.Seq.{length-take-le}
+use Rattle.format.proofs.Answers.{passed_up}
 use Rattle.write_section.proofs.Calls.{reads, header_stands}
 use Rattle.writer.proofs.Finishing.{finish_own, finish_refused, finish_done}
 use Rattle.writer.proofs.finish.Goals as goal
 
+pub returns-in_err-read_draft : goal.returns-in_err-read_draft
+returns-in_err-read_draft c = passed_up c.from_residual.ensures ∙ finish_own _ c.in_err-read_draft.ensures
+
 pub two-n-requires : goal.two-n-requires
-two-n-requires c =
-    let d = c.args.draft.now in
-    let r = reads d (sym c.in-Accepted.is ∙ c.read_draft-a.ensures) in
-    let l = header_stands d r in
-    omega (arith, l.least, l.there)
+two-n-requires c = let l = header_stands c.args.draft.now (reads c.args.draft.now c.in_ok-read_draft.ensures) in omega arith
 
 pub slice_bounds-read-end : goal.slice_bounds-read-end
 slice_bounds-read-end c =
     let d = c.args.draft.now in
-    let r = reads d (sym c.in-Accepted.is ∙ c.read_draft-a.ensures) in
-    let l = header_stands d r in
-    sym (length-take-le _ d (omega (arith, l.there, c.two-n.ensures.0)))
+    let l = header_stands d (reads d c.in_ok-read_draft.ensures) in
+    sym (length-take-le _ d (omega (arith, c.two-n.ensures.0)))
 
-pub returns-in-Refused : goal.returns-in-Refused
-returns-in-Refused c = finish_own _ (sym c.in-Refused.is ∙ c.read_draft-a.ensures)
-
-pub returns-in-Refused-b : goal.returns-in-Refused-b
-returns-in-Refused-b c =
+pub returns-in_err-read : goal.returns-in_err-read
+returns-in_err-read c =
     let d = c.args.draft.now in
-    let r = reads d (sym c.in-Accepted.is ∙ c.read_draft-a.ensures) in
-    finish_refused d r c.two-n.ensures.0 (sym c.in-Refused-b.is ∙ c.read-b.ensures)
+    passed_up c.from_residual-in_err-read.ensures ∙ finish_refused d (reads d c.in_ok-read_draft.ensures) c.two-n.ensures.0 c.in_err-read.ensures
 
-pub returns-in-Accepted-b : goal.returns-in-Accepted-b
-returns-in-Accepted-b c =
+pub returns : goal.returns
+returns c =
     let d = c.args.draft.now in
-    let r = reads d (sym c.in-Accepted.is ∙ c.read_draft-a.ensures) in
-    finish_done d r c.two-n.ensures.0 (sym c.in-Accepted-b.is ∙ c.read-b.ensures)
+    finish_done d (reads d c.in_ok-read_draft.ensures) c.two-n.ensures.0 c.in_ok-read.ensures

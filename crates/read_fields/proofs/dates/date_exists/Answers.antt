@@ -1,34 +1,24 @@
--- The tests of `date_exists`, in the order year, month, day. Assumes nothing.
-use mathlib.Core.Path.{sym}
-use Rattle.read_fields.proofs.Days.{late_year, no_month, late_month, no_day, day_there}
+-- The three tests of `date_exists` are those of the definition. Assumes nothing.
+use Rattle.std.proofs.Common.{rules, arith, ◌≡◌, get_or, ◌+◌}
+use Rattle.format.specs.Bytes.{number, bytes_at}
+use Rattle.format.specs.Forms.{between, days_in}
+use Rattle.read_fields.proofs.Days.{date_fields}
 use Rattle.read_fields.proofs.dates.date_exists.Goals as goal
+use Rattle.read_fields.proofs.dates.date_exists.Goals.{then-y-le9999, else-y-le9999}
 
-pub returns-then-y-gt9999 : goal.returns-then-y-gt9999
-returns-then-y-gt9999 c =
-    let a = c.args in
-    sym (late_year a.s.now a.i c.two-y.ensures.0 c.if-y-gt9999.true)
+pub returns-then-contains : goal.returns-then-contains
+returns-then-contains c =
+    let s = c.args.s.now in
+    let i = c.args.i in
+    let day : c.contains-then-contains.result ≡ between 1 (days_in (number (bytes_at s i 2)) (get_or s (i + 2) 0)) (get_or s (i + 3) 0) = search rules in
+    rw (date_fields, ← day) (elim c.if-y-le9999.branch [
+      | then-y-le9999 w ↦ let month : w.contains.result ≡ between 1 12 (get_or s (i + 2) 0) = search rules in grind arith
+      | else-y-le9999 w ↦ grind arith
+    ])
 
-pub returns-then-m-lt1 : goal.returns-then-m-lt1
-returns-then-m-lt1 c =
-    let a = c.args in
-    sym (no_month a.s.now a.i c.two-y.ensures.0 c.if-y-gt9999.false
-    c.if-m-lt1.true)
-
-pub returns-then-m-gt12 : goal.returns-then-m-gt12
-returns-then-m-gt12 c =
-    let a = c.args in
-    sym (late_month a.s.now a.i c.two-y.ensures.0
-    c.if-y-gt9999.false c.if-m-lt1.false c.if-m-gt12.true)
-
-pub returns-then-d-lt1 : goal.returns-then-d-lt1
-returns-then-d-lt1 c =
-    let a = c.args in
-    sym (no_day a.s.now a.i c.two-y.ensures.0
-    c.if-y-gt9999.false c.if-m-lt1.false c.if-m-gt12.false c.if-d-lt1.true)
-
-pub returns : goal.returns
-returns c =
-    let a = c.args in
-    sym (day_there a.s.now a.i c.two-y.ensures.0
-    c.if-y-gt9999.false c.if-m-lt1.false
-    c.if-m-gt12.false c.if-d-lt1.false c.days_in.ensures)
+pub returns-else-contains : goal.returns-else-contains
+returns-else-contains c =
+    rw date_fields (elim c.if-y-le9999.branch [
+      | then-y-le9999 w ↦ let month : w.contains.result ≡ between 1 12 (get_or c.args.s.now (c.args.i + 2) 0) = search rules in grind arith
+      | else-y-le9999 w ↦ grind arith
+    ])

@@ -1,17 +1,16 @@
 -- The modulus, by the bits of its first byte and the parity of its last. Assumes nothing.
-use mathlib.Core.Path.{sym}
-use native.Mathlib.Omega.{arith}
-use Rattle.read_fields.proofs.Sizes.{bytes_of, modulus_not, modulus_last}
+use Rattle.std.proofs.Common.{arith, rules}
+use Rattle.read_fields.proofs.Sizes.{bytes_of, modulus_ends}
 use Rattle.read_fields.proofs.keys.modulus_form.Goals as goal
 
-pub returns-then-modulus-bits-ne1 : goal.returns-then-modulus-bits-ne1
-returns-then-modulus-bits-ne1 c =
+pub returns-then-modulus-bits-eq1 : goal.returns-then-modulus-bits-eq1
+returns-then-modulus-bits-eq1 c =
     let m = c.args.modulus.now in
     let p = c.requires in
-    sym (modulus_not m (bytes_of m (λ k. (c.shared_slice_known-1.given k).fits)) c.args.bits (omega (arith, p.0)) p.2 c.if-modulus-bits-ne1.true)
+    rw (modulus_ends m (bytes_of m (λ k. (c.type_inv.modulus k).fits)) c.args.bits (omega (arith, p.0)) p.2) (search rules)
 
-pub returns : goal.returns
-returns c =
+pub returns-else-modulus-bits-eq1 : goal.returns-else-modulus-bits-eq1
+returns-else-modulus-bits-eq1 c =
     let m = c.args.modulus.now in
     let p = c.requires in
-    sym (modulus_last m (bytes_of m (λ k. (c.shared_slice_known-1.given k).fits)) c.args.bits (omega (arith, p.0)) p.2 c.if-modulus-bits-ne1.false)
+    rw (modulus_ends m (bytes_of m (λ k. (c.type_inv.modulus k).fits)) c.args.bits (omega (arith, p.0)) p.2) (search rules)

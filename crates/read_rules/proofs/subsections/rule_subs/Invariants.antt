@@ -3,8 +3,8 @@ use Prim.Native.Nat.{◌-◌}
 use Rattle.read_rules.specs.Loops.{RuleRead}
 use Rattle.read_rules.proofs.subsections.rule_subs.Given as goal
 
-abbrev pub invariant-loop-q : goal.invariant-loop-q
-invariant-loop-q l = RuleRead l.s l.p l.e l.q l.n l.places
+abbrev pub invariant-loop-at : goal.invariant-loop-at
+invariant-loop-at l = RuleRead l.section.bytes.now l.section.place l.end l.at l.rows l.places
 
-abbrev pub decreases-loop-q : goal.decreases-loop-q
-decreases-loop-q l = l.e - l.q
+abbrev pub decreases-loop-at : goal.decreases-loop-at
+decreases-loop-at l = l.end - l.at

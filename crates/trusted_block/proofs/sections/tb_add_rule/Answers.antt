@@ -1,6 +1,0 @@
--- The answer as two numbers, and what the draft then holds.
-use Rattle.trusted_block_numbers.proofs.Given.{given}
-use Rattle.trusted_block.proofs.sections.tb_add_rule.Goals as goal
-
-pub returns : goal.returns
-returns c = let z = given (c.give.ensures.number, c.give.ensures.second) (c.rule.ensures.answer, c.rule.ensures.draft) in record { number = z.0; draft = z.1.0; second = z.1.1 }

@@ -1,6 +1,0 @@
--- The first place, number by number.
-use mathlib.Core.Path.{refl}
-use Rattle.view_rows.proofs.start.Goals as goal
-
-pub returns : goal.returns
-returns c = (refl, refl, refl)
