@@ -10,9 +10,8 @@ use lib.Dec.{eqb, ltb}
 use lib.ListN.{length, drop, length-drop}
 use lib.Seq.{take_all}
 use borrow.Author.Tests.{lt-ltb, le-ltb, ltb-true, ltb-false, eqb-true, eqb-false}
-use Rattle.std.specs.Cmp.Lexicographic.{slice_partial_cmp}
-use Rattle.std.specs.Ordering.{is_some_and, is_lt, nat_cmp}
-use Rattle.std.specs.Prelude.{Some}
+use Rattle.std.specs.Cmp.Lexicographic.{slice_cmp}
+use Rattle.std.specs.Ordering.{is_lt, nat_cmp}
 use Rattle.format.specs.Bytes.{Bytes, number, bytes_at, all_zero}
 use Rattle.read_fields.proofs.Lists.{yes_or_no, bytes_all, number_first, number_below, number_join, zero_number}
 
@@ -45,7 +44,7 @@ module _ (xs ys : List ℕ) (l : length xs ≡ length ys) where
 
 -- byte by byte, the first that differ decide
 pub slice_order : (xs ys : List ℕ) → length xs ≡ length ys → Bytes xs → Bytes ys
-    → is_some_and is_lt (slice_partial_cmp (λ (x : ℕ) (y : ℕ). Some (nat_cmp x y)) xs ys) ≡ ltb (number xs) (number ys)
+    → is_lt (slice_cmp nat_cmp xs ys) ≡ ltb (number xs) (number ys)
 unfolding number
 slice_order [] [] l s t = refl
 slice_order [] (y ∷ ys) l s t = absurd (omega arith)

@@ -33,5 +33,6 @@ pub fn exponent_form(exponent: &[u8], modulus: &[u8]) -> bool
         return true;
     }
     let d = exponent.len() - modulus.len();
-    all_zero(exponent, 0, d) && &exponent[d..] < modulus
+    let low = &exponent[d..];
+    all_zero(exponent, 0, d) && low.cmp(&modulus).is_lt()
 }

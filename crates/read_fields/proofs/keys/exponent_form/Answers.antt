@@ -25,7 +25,7 @@ returns-then-all_zero c =
     let rest : take (length e - d) (drop d e) ≡ drop d e = take_all (length e - d) (drop d e) (omega arith) in
     let order = slice_order (drop d e) m (omega arith) (bytes_drop d e (bytes_of e (λ k. (c.type_inv.exponent k).fits))) (bytes_of m (λ k. search rules)) in
     exponent_zeros e m c.requires.0 c.if-exponent-ne1.false c.if-exponent-modulus.false (sym c.all_zero.ensures ∙ c.if-all_zero.true)
-    (c.lt.ensures ∙ rw rest order)
+    (c.is_lt.ensures ∙ rw (c.cmp.ensures, rest) order)
 
 pub returns-else-all_zero : goal.returns-else-all_zero
 returns-else-all_zero c =
