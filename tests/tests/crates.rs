@@ -124,7 +124,7 @@ const SAID: &[&str] = &[
     "format/src/lib.rt: pub const LONGEST: usize = 3500;",
     "format/src/lib.rt: pub const ROWS: usize = 300;",
     "format/specs/Rules.antt: longest = 3500",
-    "read_rule_ids/src/lib.rt: const ID_PLACES: usize = 704;",
+    "read_rule_ids/src/lib.rt: pub const ID_PLACES: usize = 704;",
     "read_rule_ids/specs/Keys.antt: id_places = 704",
     "format/proofs/Main.antt: pub at_most_300_rows : (bs : List ℕ) (l : Legal bs) → length (rows l.parts) ≤ 300",
     "format/proofs/Main.antt: at_most_300_rows bs l = subst (λ (n : ℕ). n ≤ 300) (sym (Rows.row_count_is l.parts)) (Rows.few_rows bs l)",

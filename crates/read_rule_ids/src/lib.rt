@@ -9,7 +9,7 @@ ghost use Rattle.read_rule_ids.specs.Keys.{id_places, hash_of, Room, Put};
 use std::marker::Model;
 
 // The places of a set.
-const ID_PLACES: usize = 704;
+pub const ID_PLACES: usize = 704;
 
 // The first place that may hold the number: one of 512, by multiplying its two halves.
 #[tactic(auto, unfolding(crate::specs::Keys::hash_of))]
