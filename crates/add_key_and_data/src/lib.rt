@@ -12,7 +12,7 @@ ghost use Rattle.format.specs.Writer.{write_answer, draft_after, addition, publi
 
 use format::Refusal;
 use read_sections::public_key::key_fields;
-use write_bytes::Buffer;
+use write_bytes::{Buffer, copy};
 use write_judged_section::place_for;
 use write_section::heads::section_head;
 use write_section::not_fitting;
@@ -31,9 +31,9 @@ fn put_key(part: &mut [u8], modulus_bits: u16, exponent: &[u8], modulus: &[u8], 
     let (head_place, rest) = part.split_at_mut(12);
     head_place.copy_from_slice(head.as_slice());
     let (exponent_place, rest) = rest.split_at_mut(exponent.len());
-    exponent_place.copy_from_slice(exponent);
+    copy(exponent_place, exponent);
     let (modulus_place, flags_place) = rest.split_at_mut(modulus.len());
-    modulus_place.copy_from_slice(modulus);
+    copy(modulus_place, modulus);
     flags_place.copy_from_slice(&flags.to_be_bytes());
 }
 
@@ -47,7 +47,7 @@ fn put_data(part: &mut [u8], data: &[u8])
     head.put(&(data.len() as u16).to_be_bytes());
     let (head_place, data_place) = part.split_at_mut(6);
     head_place.copy_from_slice(head.as_slice());
-    data_place.copy_from_slice(data);
+    copy(data_place, data);
 }
 
 // Section 11, the public key: the bits of its modulus, its exponent and modulus, and its flags.

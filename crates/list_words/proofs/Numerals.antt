@@ -2,14 +2,13 @@
 use mathlib.Core.Path.{◌≡◌, refl, sym, ap, ◌∙◌}
 use mathlib.Core.List.{List, [], ◌∷◌, ◌++◌, map, map-append}
 use Prim.Native.Nat.{ℕ, zero, suc, ◌+◌, ◌-◌, ◌/◌, ◌%◌, ◌^◌, max, ◌<◌, ◌≤◌}
-use mathlib.Core.Logic.{◌⊎◌, ⊎_elim}
-use native.Mathlib.Nat.{div-eq_of_lt, sub-add-eq-max, sub-eq-zero_of_le, lt_of_lt_of_le, pow-le-pow_left, max-le}
+use native.Mathlib.Nat.{sub-add-eq-max, sub-eq-zero_of_le, lt_of_lt_of_le, pow-le-pow_left, max-le}
 use native.Mathlib.Omega.{arith}
 use lib.Dec.{lit≤}
 use lib.ListN.{length, replicate, length-append, length-map}
 use Rattle.format.specs.Lines.{digits, digit_text, decimal, hexadecimal}
 use Rattle.list_words.specs.Numerals.{digit_count, numeral}
-use Rattle.list_words.proofs.Digits.{below_or_not, last_digits, length_last, digits_one, digits_more, same_turns, rest_below, digits_last, digits_hold, digits_few, digits_some, zeros_last}
+use Rattle.list_words.proofs.Digits.{last_digits, length_last, digits_one, digits_more, same_turns, rest_below, digits_last, digits_hold, digits_few, digits_some, zeros_last}
 
 -- ---- how many digits
 
@@ -68,38 +67,6 @@ pub numeral_length : (b w n : ℕ) → 2 ≤ b → length (numeral b w n) ≡ ma
 numeral_length b w n two =
     ap length (numeral_last b w n two) ∙ length-map (last_digits (max w (digit_count b n)) b n) digit_text
     ∙ length_last (max w (digit_count b n)) b n
-
--- ---- digit by digit
-
--- digits before the last: those of the quotient, of which one fewer are asked for
-pub places_more : (b w n : ℕ) → 2 ≤ b → (b ≤ n) ⊎ ((n < b) × (1 < w)) → max w (digit_count b n) ≡ suc (max (w - 1) (digit_count b (n / b)))
-places_more b w n two h =
-    ⊎_elim
-    (λ (l : n < b).
-    let q : n / b ≡ 0 = div-eq_of_lt l in
-    let one : digit_count b n ≡ 1 = count_one b n l in
-    let none : digit_count b (n / b) ≡ 1 = ap (digit_count b) q ∙ count_one b 0 (omega arith) in
-    let wide : 1 < w = ⊎_elim (λ (m : b ≤ n). absurd (omega arith)) (λ (m : (n < b) × (1 < w)). m.1) h in
-    omega arith)
-    (λ (m : b ≤ n). let e = count_more b n two m in omega arith)
-    (below_or_not n b)
-
-pub numeral_more : (b w n : ℕ) → 2 ≤ b → (b ≤ n) ⊎ ((n < b) × (1 < w)) → numeral b w n ≡ numeral b (w - 1) (n / b) ++ (digit_text (n % b) ∷ [])
-unfolding last_digits
-numeral_more b w n two h =
-    let j = max (w - 1) (digit_count b (n / b)) in
-    numeral_last b w n two
-    ∙ ap (λ (k : ℕ). map digit_text (last_digits k b n)) (places_more b w n two h)
-    ∙ map-append digit_text (last_digits j b (n / b)) (n % b ∷ [])
-    ∙ ap (λ (l : List ℕ). l ++ (digit_text (n % b) ∷ [])) (sym (numeral_last b (w - 1) (n / b) two))
-
--- one digit alone
-pub places_one : (b w n : ℕ) → n < b → w ≤ 1 → max w (digit_count b n) ≡ 1
-places_one b w n l h = let e = count_one b n l in omega arith
-
-pub numeral_one : (b w n : ℕ) → 2 ≤ b → n < b → w ≤ 1 → numeral b w n ≡ digit_text (n % b) ∷ []
-unfolding last_digits
-numeral_one b w n two l h = numeral_last b w n two ∙ ap (λ (k : ℕ). map digit_text (last_digits k b n)) (places_one b w n l h)
 
 -- in a base of 10 or more, a number of 32 bits takes ten characters or fewer
 pub places_ten : (b w n : ℕ) → 10 ≤ b → w ≤ 10 → n < 2 ^ 32 → max w (digit_count b n) ≤ 10

@@ -25,26 +25,50 @@ fn digit_text(d: u32) -> u8
     }
 }
 
-// The digits of n in a base, and zeros before them where they are fewer than `width`.
-fn put_digits(line: &mut Line, n: u32, base: u32, width: usize)
-    requires { (10 ≤ base) × (base ≤ 16) × (length line.old + max width (digit_count base n) ≤ 96) }
-    ensures bytes { line.new ≡ line.old ++ numeral base width n }
-    ensures len { length line.new ≡ length line.old + max width (digit_count base n) }
+// How many digits n has in a base, which is 10 or more.
+fn digit_count(n: u32, base: u32) -> usize
+    requires { 10 ≤ base }
+    ensures { (result ≡ digit_count base n) × (result ≤ 10) }
 {
-    if base <= n || 1 < width {
-        put_digits(line, n / base, base, width.saturating_sub(1));
+    let mut rest = n;
+    let mut k = 1;
+    while base <= rest {
+        rest = rest / base;
+        k += 1;
     }
-    line.put(&[digit_text(n % base)]);
+    k
 }
 
-// A number in a base with at least `width` digits, and the byte `end` after it.
+// How many digits n is written with: as many as it has, and at least `width`.
+fn digit_places(n: u32, base: u32, width: usize) -> usize
+    requires { (10 ≤ base) × (width ≤ 10) }
+    ensures { (result ≡ max width (digit_count base n)) × (result ≤ 10) }
+{
+    let k = digit_count(n, base);
+    if k < width {
+        return width;
+    }
+    k
+}
+
+// A number in a base with at least `width` digits, and the byte `end` after it. The digits are set from the last on, in a loop:
+// where the base is a constant in the call, the compiler divides by a constant.
 pub fn put_number(line: &mut Line, n: u32, base: u32, width: usize, end: u8)
     requires { (10 ≤ base) × (base ≤ 16) × (width ≤ 10) × (length line.old + 11 ≤ 96) }
     ensures bytes { line.new ≡ line.old ++ (numeral base width n ++ (end ∷ [])) }
     ensures len { length line.new ≤ length line.old + 11 }
 {
-    put_digits(line, n, base, width);
-    line.put(&[end]);
+    let first = line.as_slice().len();
+    let count = digit_places(n, base, width);
+    line.lengthen(count + 1);
+    line.set(first + count, end);
+    let mut rest = n;
+    let mut k = count;
+    while 0 < k {
+        k -= 1;
+        line.set(first + k, digit_text(rest % base));
+        rest = rest / base;
+    }
 }
 
 // The word for a token's id, and a space after it.

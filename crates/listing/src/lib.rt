@@ -2,7 +2,7 @@
 // `row_line`). These answer 0 with the line's length, or 23 where the buffer is too small for the line and is left as it is.
 #![tactic(auto)]
 
-ghost use Rattle.std.specs.Prelude.{◌≡◌, ◌≤◌, length};
+ghost use Rattle.std.specs.Prelude.{◌≡◌, [], ◌≤◌, length};
 ghost use Rattle.format.specs.Lines.{first_line, row_line};
 ghost use Rattle.listing.specs.Buffers.{line_answer, line_in};
 
@@ -35,17 +35,26 @@ pub fn first(id: u8, bytes: u32, answer: Result<u32, Refusal>) -> Line
     line
 }
 
+// The line of a row, put into one that has nothing yet.
+fn put_row(line: &mut Line, place: u32, row: Row)
+    requires { line.old ≡ [] }
+    ensures bytes { line.new ≡ row_line place row }
+    ensures fits { length line.new ≤ 96 }
+{
+    put_number(line, place, 10, 1, b' ');
+    put_kind(line, row.kind);
+    put_number(line, row.offset, 10, 1, b' ');
+    put_number(line, row.length, 10, 1, b' ');
+    put_number(line, row.owner, 10, 1, b' ');
+    put_number(line, row.rule, 10, 1, b'\n');
+}
+
 // The line of a row, from its place in the table and its numbers.
 pub fn of_row(place: u32, row: Row) -> Line
     ensures { result ≡ row_line place row }
 {
     let mut line = Line::new();
-    put_number(&mut line, place, 10, 1, b' ');
-    put_kind(&mut line, row.kind);
-    put_number(&mut line, row.offset, 10, 1, b' ');
-    put_number(&mut line, row.length, 10, 1, b' ');
-    put_number(&mut line, row.owner, 10, 1, b' ');
-    put_number(&mut line, row.rule, 10, 1, b'\n');
+    put_row(&mut line, place, row);
     line
 }
 
@@ -82,5 +91,8 @@ pub fn row_line(out: &mut [u8], place: u32, row: Row) -> Result<u32, Refusal>
     ensures buffer { out.new ≡ line_in (row_line place row) out.old }
     ensures fits { length (row_line place row) ≤ 96 }
 {
-    place_line(out, &of_row(place, row))
+    // Not `of_row`, whose result would be copied once more.
+    let mut line = Line::new();
+    put_row(&mut line, place, row);
+    place_line(out, &line)
 }

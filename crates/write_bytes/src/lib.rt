@@ -1,9 +1,20 @@
-// Internal: bytes put one after another into an array.
+// Internal: bytes put one after another into an array, and the copy that puts them there.
 #![tactic(auto)]
 
-ghost use Rattle.std.specs.Prelude.{◌≡◌, ◌++◌, [], ◌+◌, ◌≤◌, length};
+ghost use Rattle.std.specs.Prelude.{◌≡◌, ◌++◌, [], ◌+◌, ◌<◌, ◌≤◌, length, set, take};
 
 use std::marker::Model;
+
+// Copies a text to a place that is as long. The compiler makes `memcpy` of the loop; `copy_from_slice` would be `memmove`, one
+// function more that a host program in C has to link.
+pub fn copy(place: &mut [u8], text: &[u8])
+    requires { length place.old ≡ length text.now }
+    ensures { place.new ≡ text.now }
+{
+    'bytes: for i in 0..text.len() {
+        place[i] = text[i];
+    }
+}
 
 // Bytes put one after another, in an array that has room for N.
 #[derive(Drop)]
@@ -41,8 +52,25 @@ impl<const N: usize> Buffer<N> {
     {
         let end = self.len + text.len();
         let bytes = &mut self.bytes[..];
-        bytes[self.len..end].copy_from_slice(text);
+        copy(&mut bytes[self.len..end], text);
         self.len = end;
+    }
+
+    // So many places more, whose bytes are to be set.
+    pub fn lengthen(&mut self, count: usize)
+        requires { length self.old + count ≤ N }
+        ensures bytes { take (length self.old) self.new ≡ self.old }
+        ensures len { length self.new ≡ length self.old + count }
+    {
+        self.len += count;
+    }
+
+    // Another byte at a place.
+    pub fn set(&mut self, i: usize, byte: u8)
+        requires { i < length self.old }
+        ensures { self.new ≡ set self.old i byte }
+    {
+        self.bytes[i] = byte;
     }
 
     // The bytes so far.
