@@ -4,19 +4,7 @@ ghost use Rattle.format.specs.GivenNumbers.{step_number, row_answer, step_second
 
 use crate::give;
 use format::refusals::NOT_THERE;
-use format::{Refusal, Row, RowStep};
-
-// What is given where there is no row.
-const NO_ROW: RowStep = RowStep {
-    row: Row {
-        kind: 0,
-        offset: 0,
-        length: 0,
-        owner: 0,
-        rule: 0,
-    },
-    next: 0,
-};
+use format::{Refusal, RowStep};
 
 // The numbers of a step.
 pub fn give_step(
@@ -38,14 +26,23 @@ pub fn give_step(
     ensures rule { rule.new ≡ row_rule s }
     ensures next { next.new ≡ next_of s }
 {
-    let step = s.ok().flatten().unwrap_or(NO_ROW);
+    let Ok(Some(step)) = s else {
+        *kind = 0;
+        *offset = 0;
+        *length = 0;
+        *owner = 0;
+        *rule = 0;
+        *next = 0;
+        return give(s.map(|_| 0), second);
+    };
+    *second = 0;
     *kind = step.row.kind;
     *offset = step.row.offset;
     *length = step.row.length;
     *owner = step.row.owner;
     *rule = step.row.rule;
     *next = step.next;
-    give(s.map(|_| 0), second)
+    0
 }
 
 // The numbers of a row that is asked for by its number, where the walk to it came to this step: behind the last row there is
