@@ -12,7 +12,7 @@ use view_rows::{field_in, step_in};
 pub fn field_at(token: &[u8], row: u32, field: u32) -> Result<Span, Refusal>
     ensures { result ≡ field_at token.now row field }
 {
-    read(token)?;
+    let _rows = read(token)?;
     field_in(token, row as usize, field as usize)
 }
 
@@ -40,6 +40,6 @@ pub fn view_answer(token: &[u8], row: u32, field: u32) -> Result<u32, Refusal>
 pub fn step(token: &[u8], place: usize) -> Result<Option<RowStep>, Refusal>
     ensures { result ≡ step_at token.now place }
 {
-    read(token)?;
+    let _count = read(token)?;
     step_in(token, place)
 }
