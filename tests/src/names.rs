@@ -213,15 +213,20 @@ impl<'a> Check<'a> {
         self.need(good, format!("{name}: not declared in {place}"));
     }
 
-    /// `crate::name`, `crate::file::name`, or after a crate `file::name`.
+    /// `crate::name`, `crate::file::name`, or after a crate `file::name`; a
+    /// type may stand before the name, which is then a method.
     fn function(&mut self, text: &str) {
         let mut parts: Vec<&str> = text.split("::").collect();
         let name = parts.pop().unwrap_or_default();
         if self.is_crate(parts[0]) {
             self.place = Some(format!("crates/{}", parts.remove(0)));
         }
+        let of_type = parts.pop_if(|part| capitalised(part));
         let of = self.place.clone().unwrap_or_default();
         let file = format!("{of}/src/{}.rt", parts.join("/"));
-        self.declared(if parts.is_empty() { &of } else { &file }, name);
+        let place = if parts.is_empty() { &of } else { &file };
+        for declared in of_type.into_iter().chain([name]) {
+            self.declared(place, declared);
+        }
     }
 }
