@@ -12,10 +12,21 @@ ghost use Rattle.format.specs.Writer.{write_answer, draft_after, addition, publi
 
 use format::Refusal;
 use read_sections::public_key::key_fields;
-use write_bytes::{Buffer, copy};
+use write_bytes::Buffer;
 use write_judged_section::place_for;
 use write_section::heads::section_head;
 use write_section::not_fitting;
+
+// Copies a text to a place that is as long. By a loop, of which the compiler makes steps of 32 bytes: `copy_from_slice` would be a
+// call of `memmove`, one function more that a host program in C has to link.
+fn copy(place: &mut [u8], text: &[u8])
+    requires { length place.old ≡ length text.now }
+    ensures { place.new ≡ text.now }
+{
+    'bytes: for i in 0..text.len() {
+        place[i] = text[i];
+    }
+}
 
 // The bytes of section 11, in the place that is lent for them.
 fn put_key(part: &mut [u8], modulus_bits: u16, exponent: &[u8], modulus: &[u8], flags: u32)

@@ -1,20 +1,9 @@
-// Internal: bytes put one after another into an array, and the copy that puts them there.
+// Internal: bytes put one after another into an array.
 #![tactic(auto)]
 
 ghost use Rattle.std.specs.Prelude.{◌≡◌, ◌++◌, [], ◌+◌, ◌<◌, ◌≤◌, length, set, take};
 
 use std::marker::Model;
-
-// Copies a text to a place that is as long. The compiler makes `memcpy` of the loop; `copy_from_slice` would be `memmove`, one
-// function more that a host program in C has to link.
-pub fn copy(place: &mut [u8], text: &[u8])
-    requires { length place.old ≡ length text.now }
-    ensures { place.new ≡ text.now }
-{
-    'bytes: for i in 0..text.len() {
-        place[i] = text[i];
-    }
-}
 
 // Bytes put one after another, in an array that has room for N.
 #[derive(Drop)]
@@ -52,7 +41,7 @@ impl<const N: usize> Buffer<N> {
     {
         let end = self.len + text.len();
         let bytes = &mut self.bytes[..];
-        copy(&mut bytes[self.len..end], text);
+        bytes[self.len..end].copy_from_slice(text);
         self.len = end;
     }
 

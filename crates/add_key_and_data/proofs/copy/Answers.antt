@@ -1,7 +1,7 @@
 -- Each turn stores one byte more; at the end all are stored.
 use Rattle.std.proofs.Common.{◌≡◌, ◌++◌, ◌∷◌, [], List, length, get_or, arith, sym, ap, ◌∙◌}
 use Rattle.std.proofs.lemmas.List.{take_all, take_more, take_more_set}
-use Rattle.write_bytes.proofs.copy.Goals as goal
+use Rattle.add_key_and_data.proofs.copy.Goals as goal
 
 pub bytes-preserved : goal.bytes-preserved
 bytes-preserved c =
